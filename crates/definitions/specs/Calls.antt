@@ -1,0 +1,57 @@
+-- Document 01, "The questions a call goes through": the answers of the three calls, and their results.
+use Prim.Native.Nat.{ℕ}
+use mathlib.Core.List.{List, [], _∷_, flatten}
+use lib.Dec.{leb}
+use lib.ListN.{length}
+use Rattle.definitions.specs.Limits.{maxColumns, maxRows, maxSets}
+use Rattle.definitions.specs.Image.{imageOf}
+use Rattle.definitions.specs.OuterUnion.{unionIds, unionRows}
+use Rattle.definitions.specs.MinimumUnion.{filled, minimumRows, pairsTried}
+use Rattle.definitions.specs.ComplementUnion.{unionSets, fusedRows}
+use Rattle.definitions.specs.SetList.{setList}
+use Rattle.definitions.specs.Questions.{imageNumber}
+use Rattle.definitions.specs.Answer.{Outcome, done, unless, no}
+
+-- "Questions 1–7 are all put to the first table, then all to the second", then "Has the union at most 16 columns?"
+unfoldable pub pairNumber : List ℕ → List ℕ → Outcome → Outcome
+pairNumber a b rest =
+    unless (imageNumber maxRows a) 0
+    (unless (imageNumber maxRows b) 1
+    (unless (no (leb (length (unionIds a b)) maxColumns) 8) 2 rest))
+
+-- "Has the table buffer as many words as the result image?" `room` counts the words of the buffer
+abbrev pub tableRoom : List ℕ → ℕ → Outcome → Outcome
+tableRoom image room rest = unless (no (leb (length image) room) 10) 2 rest
+
+-- the results: images with the union's columns
+unfoldable pub outerImage : List ℕ → List ℕ → List ℕ
+outerImage a b = imageOf (unionIds a b) (unionRows a b)
+
+unfoldable pub minimumImage : List ℕ → List ℕ → List ℕ
+minimumImage a b = imageOf (unionIds a b) (minimumRows (unionRows a b))
+
+unfoldable pub fusedImage : List ℕ → List ℕ → List ℕ
+fusedImage a b = imageOf (unionIds a b) (fusedRows (unionRows a b))
+
+unfoldable pub outerOutcome : List ℕ → List ℕ → ℕ → Outcome
+outerOutcome a b room =
+    pairNumber a b
+    (tableRoom (outerImage a b) room
+    (done (length (unionRows a b) ∷ length (outerImage a b) ∷ filled (flatten (unionRows a b)) ∷ [])))
+
+unfoldable pub minimumOutcome : List ℕ → List ℕ → ℕ → Outcome
+minimumOutcome a b room =
+    pairNumber a b
+    (tableRoom (minimumImage a b) room
+    (done (length (minimumRows (unionRows a b)) ∷ length (minimumImage a b)
+    ∷ filled (flatten (minimumRows (unionRows a b))) ∷ pairsTried (unionRows a b) ∷ [])))
+
+-- "are there at most 1,024 maximal sets?", the table's room, "has the set buffer the words that the set list takes?"
+unfoldable pub complementOutcome : List ℕ → List ℕ → ℕ → ℕ → Outcome
+complementOutcome a b room setRoom =
+    pairNumber a b
+    (unless (no (leb (length (unionSets (unionRows a b))) maxSets) 9) 2
+    (tableRoom (fusedImage a b) room
+    (unless (no (leb (length (setList (unionRows a b))) setRoom) 11) 2
+    (done (length (fusedRows (unionRows a b)) ∷ length (fusedImage a b) ∷ filled (flatten (fusedRows (unionRows a b)))
+    ∷ length (unionSets (unionRows a b)) ∷ length (setList (unionRows a b)) ∷ [])))))

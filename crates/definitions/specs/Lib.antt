@@ -1,0 +1,14 @@
+-- The definitions of document 01, a file for each section, in its order. What the library promises is stated by these, and by nothing else.
+pub mod Limits
+pub mod Lists
+pub mod Word
+pub mod Image
+pub mod Ascending
+pub mod OuterUnion
+pub mod MinimumUnion
+pub mod ComplementUnion
+pub mod SetList
+pub mod Questions
+pub mod Answer
+pub mod Calls
+pub mod Statements

@@ -1,0 +1,45 @@
+-- Tests, sums and places over lists: the common words of the definitions.
+use Prim.Native.Nat.{ℕ, zero, suc, _+_}
+use mathlib.Core.Bool.{Bool, true, false, cond, not, _&&_, _||_}
+use mathlib.Core.List.{List, [], _∷_, _++_}
+use lib.ListN.{take, drop}
+
+module _ {A : Type 0} where
+  -- every element passes the test
+  unfoldable pub all : (A → Bool) → List A → Bool
+  all p [] = true
+  all p (x ∷ xs) = p x && all p xs
+
+  -- some element passes the test
+  unfoldable pub any : (A → Bool) → List A → Bool
+  any p [] = false
+  any p (x ∷ xs) = p x || any p xs
+
+  -- the elements that pass the test, in their order
+  unfoldable pub keep : (A → Bool) → List A → List A
+  keep p [] = []
+  keep p (x ∷ xs) = cond (p x) (x ∷ keep p xs) (keep p xs)
+
+  -- the place of the first element that passes the test, counted from 0; the length where none does
+  unfoldable pub place : (A → Bool) → List A → ℕ
+  place p [] = 0
+  place p (x ∷ xs) = cond (p x) 0 (suc (place p xs))
+
+  -- no element equals a later one
+  unfoldable pub distinct : (A → A → Bool) → List A → Bool
+  distinct same [] = true
+  distinct same (x ∷ xs) = not (any (same x) xs) && distinct same xs
+
+  -- the list without what stands at place k
+  abbrev pub without : ℕ → List A → List A
+  without k xs = take k xs ++ drop (suc k) xs
+
+-- the test passes at every number below n
+unfoldable pub allBelow : ℕ → (ℕ → Bool) → Bool
+allBelow zero p = true
+allBelow (suc n) p = allBelow n p && p n
+
+-- f 0 + f 1 + .. + f (n - 1)
+unfoldable pub sumBelow : ℕ → (ℕ → ℕ) → ℕ
+sumBelow zero f = 0
+sumBelow (suc n) f = sumBelow n f + f n

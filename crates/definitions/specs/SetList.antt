@@ -1,0 +1,30 @@
+-- Document 01, "Complementation and complement union": the words of the set list.
+use Prim.Native.Nat.{ℕ, zero, suc, _+_, _*_, _/_, _%_, _^_}
+use mathlib.Core.Bool.{Bool, true, false, cond}
+use mathlib.Core.List.{List, [], _∷_, _++_, map, flatten}
+use lib.ListN.{length}
+use Rattle.definitions.specs.Limits.{markWords, setWidth}
+use Rattle.definitions.specs.Lists.{place}
+use Rattle.definitions.specs.Word.{wordOf, headerWord}
+use Rattle.definitions.specs.ComplementUnion.{sameRow, unionSets, joined, fusedRows}
+
+-- a set as a number: bit k marks position k
+unfoldable pub bits : List Bool → ℕ
+bits [] = 0
+bits (m ∷ s) = cond m 1 0 + 2 * bits s
+
+-- n words of kind 2 "whose low 30 bits mark positions 0–29, 30–59 and 60–63 (lowest bit first, unused bits zero)"
+unfoldable pub marksFrom : ℕ → ℕ → List ℕ
+marksFrom zero set = []
+marksFrom (suc n) set = wordOf 2 (set % 2 ^ 30) ∷ marksFrom n (set / 2 ^ 30)
+
+-- "the joined row's position in the fused table"
+abbrev pub fusedPlace : List (List ℕ) → List Bool → ℕ
+fusedPlace rows s = place (sameRow (joined rows s)) (fusedRows rows)
+
+unfoldable pub setRecord : List (List ℕ) → List Bool → List ℕ
+setRecord rows s = marksFrom markWords (bits s) ++ (wordOf 1 (fusedPlace rows s) ∷ [])
+
+-- "The set list is a header of kind 3 .. then 4 words a set"
+unfoldable pub setList : List (List ℕ) → List ℕ
+setList rows = headerWord (length (unionSets rows)) setWidth ∷ flatten (map (setRecord rows) (unionSets rows))

@@ -1,0 +1,50 @@
+// The types that code and definitions share: the order of two elements, and the answers of the three calls.
+
+// The first of two elements comes before the second, is the same, or comes after it.
+pub enum Order {
+    Before,
+    Same,
+    After,
+}
+
+// The answer of outer union: done with its counts, or refused with number and table.
+pub enum OuterAnswer {
+    Done {
+        rows: usize,
+        words: usize,
+        filled: usize,
+    },
+    Refused {
+        number: u32,
+        table: u32,
+    },
+}
+
+// The answer of minimum union, with the pairs tried.
+pub enum MinimumAnswer {
+    Done {
+        rows: usize,
+        words: usize,
+        filled: usize,
+        pairs: usize,
+    },
+    Refused {
+        number: u32,
+        table: u32,
+    },
+}
+
+// The answer of complement union, with the number of sets and the words of the set list.
+pub enum ComplementAnswer {
+    Done {
+        rows: usize,
+        words: usize,
+        filled: usize,
+        sets: usize,
+        set_words: usize,
+    },
+    Refused {
+        number: u32,
+        table: u32,
+    },
+}
