@@ -9,26 +9,47 @@ use Rattle.definitions.specs.Lists.{all, distinct}
 use Rattle.definitions.specs.Word.{isCell}
 use Rattle.definitions.specs.Image.{header, columnCount, rowCount, isHeader, isColumn, columnWords, imageIds, cellWords, imageLength}
 
+-- "Is there a first word, of kind 3, with bits 17 to 5 zero?"
+abbrev pub hasHeader : List ℕ → Bool
+hasHeader image = ltb 0 (length image) && isHeader (header image)
+
+-- "Are there 1 to 16 columns?"
+abbrev pub columnsFit : List ℕ → Bool
+columnsFit image = leb 1 (columnCount image) && leb (columnCount image) maxColumns
+
+-- "Are there at most 32 rows?"
+abbrev pub rowsFit : ℕ → List ℕ → Bool
+rowsFit maxRows image = leb (rowCount image) maxRows
+
+-- "Has the image exactly 1 + c + r × c words?"
+abbrev pub lengthFits : List ℕ → Bool
+lengthFits image = eqb (length image) (imageLength image)
+
+-- "Is every column word of kind 2 with bits 29 to 16 zero?"
+abbrev pub columnsRight : List ℕ → Bool
+columnsRight image = all isColumn (columnWords image)
+
+-- "Are the ids distinct?"
+abbrev pub idsDistinct : List ℕ → Bool
+idsDistinct image = distinct eqb (imageIds image)
+
+-- "Is every cell either zero or of kind 1?"
+abbrev pub cellsRight : List ℕ → Bool
+cellsRight image = all isCell (cellWords image)
+
 -- a question: on a yes the rest, on a no its number
 abbrev pub ask : Bool → ℕ → ℕ → ℕ
 ask true number rest = rest
 ask false number rest = number
 
--- "the first no gives its number"; 0 where all seven are answered yes
+-- "In order; the first no gives its number": 0 where all seven are answered yes. The row limit is a parameter.
 unfoldable pub imageNumber : ℕ → List ℕ → ℕ
 imageNumber maxRows image =
-    -- "Is there a first word, of kind 3, with bits 17 to 5 zero?"
-    ask (ltb 0 (length image) && isHeader (header image)) 1
-    -- "Are there 1 to 16 columns?"
-    (ask (leb 1 (columnCount image) && leb (columnCount image) maxColumns) 2
-    -- "Are there at most 32 rows?"
-    (ask (leb (rowCount image) maxRows) 3
-    -- "Has the image exactly 1 + c + r × c words?"
-    (ask (eqb (length image) (imageLength image)) 4
-    -- "Is every column word of kind 2 with bits 29 to 16 zero?"
-    (ask (all isColumn (columnWords image)) 5
-    -- "Are the ids distinct?"
-    (ask (distinct eqb (imageIds image)) 6
-    -- "Is every cell either zero or of kind 1?"
-    (ask (all isCell (cellWords image)) 7
+    ask (hasHeader image) 1
+    (ask (columnsFit image) 2
+    (ask (rowsFit maxRows image) 3
+    (ask (lengthFits image) 4
+    (ask (columnsRight image) 5
+    (ask (idsDistinct image) 6
+    (ask (cellsRight image) 7
     0))))))

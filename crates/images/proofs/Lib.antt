@@ -1,0 +1,4 @@
+-- Laws of the questions put to one image.
+pub mod Numbers
+pub mod Accepted
+pub mod Parts
