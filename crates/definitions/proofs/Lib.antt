@@ -2,4 +2,9 @@
 pub mod Bools
 pub mod Ascending
 pub mod Orders
+pub mod Lists
+pub mod Rows
+pub mod Patterns
+pub mod Sets
+pub mod Counts
 pub mod Paper

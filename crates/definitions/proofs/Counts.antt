@@ -1,0 +1,115 @@
+-- Lengths and counts: of images, set lists, distinct lists, and the pairs tried. Assumes nothing.
+use mathlib.Core.Path.{_≡_, refl, sym, _∙_, ap, ap₂}
+use mathlib.Core.Bool.{Bool, true, false, cond}
+use mathlib.Core.Logic.{inl, inr}
+use mathlib.Core.List.{List, [], _∷_, _++_, map, flatten}
+use Prim.Native.Nat.{ℕ, zero, suc, _+_, _-_, _*_, _/_, _^_, _<_, _≤_}
+use native.Mathlib.Nat.{suc-mul, zero-mul, mul-comm}
+use native.Mathlib.Omega.{arith}
+use lib.ListN.{length, getD, take, drop, length-append, length-take, length-drop, length-map}
+use Rattle.definitions.specs.declared.Order.{Order}
+use Rattle.definitions.specs.declared.Order.the-variants.{Before, Same, After}
+use Rattle.definitions.specs.Limits.{markWords, setWidth}
+use Rattle.definitions.specs.Lists.{without, sumBelow}
+use Rattle.definitions.specs.Word.{columnWord}
+use Rattle.definitions.specs.Image.{imageOf}
+use Rattle.definitions.specs.Ascending.{put, insert, ascending}
+use Rattle.definitions.specs.OuterUnion.{compareRow}
+use Rattle.definitions.specs.MinimumUnion.{subsumes, minimumRows, tries, pairsTried}
+use Rattle.definitions.specs.ComplementUnion.{joined, unionSets, fusedRows}
+use Rattle.definitions.specs.SetList.{bits, marksFrom, setRecord, setList}
+use Rattle.definitions.specs.Statements.{Stands}
+use Rattle.definitions.proofs.Bools.{bool-cases}
+use Rattle.definitions.proofs.Lists.{map-stands, sum-bound, keep-length}
+
+-- ---- words of images and set lists
+
+pub flatten-length : {A : Type 0} (c : ℕ) (l : List (List A)) → ((r : List A) → Stands r l → length r ≡ c) → length (flatten l) ≡ length l * c
+unfolding flatten
+flatten-length c [] f = sym (zero-mul c)
+flatten-length c (r ∷ l) f =
+    let i = flatten-length c l (λ s h. f s (inr h)) in
+    let h = f r (inl refl) in
+    length-append r (flatten l) ∙ rw suc-mul (omega arith)
+
+pub image-length : (ids : List ℕ) (rows : List (List ℕ)) → ((r : List ℕ) → Stands r rows → length r ≡ length ids)
+    → length (imageOf ids rows) ≡ 1 + length ids + length rows * length ids
+unfolding imageOf
+image-length ids rows f =
+    let w = length-append (map columnWord ids) (flatten rows) in
+    let m = length-map ids columnWord in
+    let c = flatten-length (length ids) rows f in
+    omega arith
+
+marks-length : (n set : ℕ) → length (marksFrom n set) ≡ n
+unfolding marksFrom
+marks-length zero set = refl
+marks-length (suc n) set = ap suc (marks-length n (set / 2 ^ 30))
+
+pub record-length : (rows : List (List ℕ)) (s : List Bool) → length (setRecord rows s) ≡ setWidth
+unfolding setRecord
+record-length rows s = length-append (marksFrom markWords (bits s)) _ ∙ ap (λ (k : ℕ). k + 1) (marks-length markWords (bits s))
+
+pub set-list-length : (rows : List (List ℕ)) → length (setList rows) ≡ 1 + setWidth * length (unionSets rows)
+unfolding setList
+set-list-length rows =
+    let f = flatten-length setWidth (map (setRecord rows) (unionSets rows))
+    (λ r h. let i = map-stands (setRecord rows) r (unionSets rows) h in ap (λ (l : List ℕ). length l) (i .2) ∙ record-length rows (i .0)) in
+    let m = length-map (unionSets rows) (setRecord rows) in
+    omega arith
+
+-- ---- no more distinct elements than elements
+
+module _ {A : Type 0} (compare : A → A → Order) where
+  put-length : (o : Order) (a b : A) (t i : List A) → length i ≤ suc (length t) → length (put o a b t i) ≤ suc (suc (length t))
+  put-length Before a b t i h = omega arith
+  put-length Same a b t i h = omega arith
+  put-length After a b t i h = omega arith
+
+  pub insert-length : (a : A) (t : List A) → length (insert compare a t) ≤ suc (length t)
+  unfolding insert
+  insert-length a [] = omega arith
+  insert-length a (b ∷ t) = put-length (compare a b) a b t (insert compare a t) (insert-length a t)
+
+  pub ascending-length : (l : List A) → length (ascending compare l) ≤ length l
+  unfolding ascending
+  ascending-length [] = omega arith
+  ascending-length (a ∷ l) =
+      let i = insert-length a (ascending compare l) in
+      let j = ascending-length l in
+      omega arith
+
+-- no more joined rows than sets
+pub fused-count : (rows : List (List ℕ)) → length (fusedRows rows) ≤ length (unionSets rows)
+unfolding fusedRows
+fused-count rows =
+    let i = ascending-length compareRow (map (joined rows) (unionSets rows)) in
+    let m = length-map (unionSets rows) (joined rows) in
+    omega arith
+
+pub minimum-count : (rows : List (List ℕ)) → length (minimumRows rows) ≤ length rows
+unfolding minimumRows
+minimum-count rows = keep-length _ rows
+
+-- ---- pairs tried
+
+pub without-length : {A : Type 0} (k : ℕ) (l : List A) → k < length l → length (without k l) ≡ length l - 1
+without-length k l h =
+    let a = length-append (take k l) (drop (suc k) l) in
+    let t = length-take k l in
+    let d = length-drop (suc k) l in
+    omega arith
+
+tries-bound : (t : List ℕ) (others : List (List ℕ)) → tries t others ≤ length others
+unfolding tries
+tries-bound t [] = omega arith
+tries-bound t (s ∷ others) =
+    let i = tries-bound t others in
+    bool-cases (subsumes s t) (λ e. rw e (omega arith)) (λ e. rw e (omega arith))
+
+-- "with n rows in T it is at most n × (n − 1)"
+pub pairs-bound : (rows : List (List ℕ)) → pairsTried rows ≤ length rows * (length rows - 1)
+unfolding pairsTried
+pairs-bound rows =
+    sum-bound (length rows) (length rows - 1) (λ k. tries (getD rows k []) (without k rows))
+    (λ k h. let i = tries-bound (getD rows k []) (without k rows) in let w = without-length k rows h in omega arith)

@@ -1,0 +1,273 @@
+-- Laws of the tests, sums and places over lists: what each says of the elements, and what one more element adds to it. Assumes nothing.
+use mathlib.Core.Path.{_≡_, refl, sym, _∙_, ap, ap₂, subst}
+use mathlib.Core.Bool.{Bool, true, false, cond, not, _&&_, _||_, and-true, or-false, and-assoc, or-assoc}
+use mathlib.Core.Logic.{_⊎_, inl, inr, ⊎-elim, _↔_}
+use mathlib.Core.List.{List, [], _∷_, _++_, map, append-nil}
+use Prim.Native.Nat.{ℕ, zero, suc, _+_, _*_, _<_, _≤_}
+use native.Mathlib.Nat.{le-of-suc-le-suc, not-suc-le-zero, eq-or-lt-of-le, suc-mul, zero-mul}
+use native.Mathlib.Numerals.{add-one}
+use native.Mathlib.Omega.{arith}
+use lib.ListN.{length, getD, take, drop}
+use lib.Seq.{take-suc}
+use Rattle.definitions.specs.declared.Order.{Order}
+use Rattle.definitions.specs.declared.Order.the-variants.{Before, Same, After}
+use Rattle.definitions.specs.Lists.{all, any, keep, place, distinct, allBelow, sumBelow}
+use Rattle.definitions.specs.Statements.{Stands, Orders, Above, Rising}
+use Rattle.definitions.proofs.Bools.{bool-cases, clash, not-so, and-l, and-r, and-i, or-cases, or-l, or-r}
+use Rattle.definitions.proofs.Ascending.{not-before-self, rising-get}
+
+-- ---- elements and positions
+
+module _ {A : Type 0} where
+  pub stands-get : (d : A) (l : List A) (k : ℕ) → k < length l → Stands (getD l k d) l
+  stands-get d [] k h = absurd (not-suc-le-zero h)
+  stands-get d (x ∷ l) zero h = inl refl
+  stands-get d (x ∷ l) (suc k) h = inr (stands-get d l k (le-of-suc-le-suc h))
+
+  pub stands-at : (d x : A) (l : List A) → Stands x l → (k : ℕ) × (k < length l) × (getD l k d ≡ x)
+  stands-at d x [] h = absurd h
+  stands-at d x (y ∷ l) h =
+      ⊎-elim (λ e. (0, omega arith, sym e)) (λ r. let i = stands-at d x l r in (suc (i .0), omega (arith, i .1), i .2)) h
+
+  pub none-empty : (l : List A) → length l ≡ 0 → l ≡ []
+  none-empty [] e = refl
+  none-empty (x ∷ l) e = absurd (omega arith)
+
+module _ {A B : Type 0} where
+  pub stands-map : (f : A → B) (x : A) (l : List A) → Stands x l → Stands (f x) (map f l)
+  stands-map f x [] h = h
+  stands-map f x (y ∷ l) h = ⊎-elim (λ e. inl (ap f e)) (λ r. inr (stands-map f x l r)) h
+
+  pub map-stands : (f : A → B) (y : B) (l : List A) → Stands y (map f l) → (x : A) × Stands x l × (y ≡ f x)
+  map-stands f y [] h = absurd h
+  map-stands f y (x ∷ l) h =
+      ⊎-elim (λ e. (x, inl refl, e)) (λ r. let i = map-stands f y l r in (i .0, inr (i .1), i .2)) h
+
+  pub map-ext : (f g : A → B) (l : List A) → ((x : A) → Stands x l → f x ≡ g x) → map f l ≡ map g l
+  map-ext f g [] h = refl
+  map-ext f g (x ∷ l) h = ap₂ (λ (b : B) (r : List B). b ∷ r) (h x (inl refl)) (map-ext f g l (λ y k. h y (inr k)))
+
+-- ---- every element, some element
+
+module _ {A : Type 0} (p : A → Bool) where
+  pub all-true : (l : List A) → all p l ≡ true → (x : A) → Stands x l → p x ≡ true
+  unfolding all
+  all-true [] e x h = absurd h
+  all-true (y ∷ l) e x h = ⊎-elim (λ q. ap p q ∙ and-l (p y) (all p l) e) (λ r. all-true l (and-r (p y) (all p l) e) x r) h
+
+  pub all-of : (l : List A) → ((x : A) → Stands x l → p x ≡ true) → all p l ≡ true
+  unfolding all
+  all-of [] f = refl
+  all-of (y ∷ l) f = and-i (f y (inl refl)) (all-of l (λ x h. f x (inr h)))
+
+  pub any-true : (l : List A) → any p l ≡ true → (x : A) × Stands x l × (p x ≡ true)
+  unfolding any
+  any-true [] e = absurd (clash refl (sym e))
+  any-true (y ∷ l) e =
+      ⊎-elim (λ q. (y, inl refl, q)) (λ q. let i = any-true l q in (i .0, inr (i .1), i .2)) (or-cases (p y) (any p l) e)
+
+  pub any-of : (x : A) (l : List A) → Stands x l → p x ≡ true → any p l ≡ true
+  unfolding any
+  any-of x [] h e = absurd h
+  any-of x (y ∷ l) h e =
+      ⊎-elim (λ q. or-l (p y) (any p l) (ap p (sym q) ∙ e)) (λ r. or-r (p y) (any p l) (any-of x l r e)) h
+
+  pub any-false : (l : List A) → any p l ≡ false → (x : A) → Stands x l → p x ≡ false
+  any-false l e x h = not-so (p x) (λ q. clash (any-of x l h q) e)
+
+  pub any-none : (l : List A) → ((x : A) → Stands x l → p x ≡ false) → any p l ≡ false
+  any-none l f = not-so (any p l) (λ q. let i = any-true l q in clash (i .2) (f (i .0) (i .1)))
+
+  pub all-append : (l m : List A) → all p (l ++ m) ≡ (all p l && all p m)
+  unfolding all
+  all-append [] m = refl
+  all-append (x ∷ l) m = ap (λ (b : Bool). p x && b) (all-append l m) ∙ sym (and-assoc (p x) (all p l) (all p m))
+
+  pub any-append : (l m : List A) → any p (l ++ m) ≡ (any p l || any p m)
+  unfolding any
+  any-append [] m = refl
+  any-append (x ∷ l) m = ap (λ (b : Bool). p x || b) (any-append l m) ∙ sym (or-assoc (p x) (any p l) (any p m))
+
+  pub all-snoc : (x : A) (l : List A) → all p (l ++ (x ∷ [])) ≡ (all p l && p x)
+  unfolding all
+  all-snoc x l = all-append l (x ∷ []) ∙ ap (λ (b : Bool). all p l && b) (and-true (p x))
+
+  pub any-snoc : (x : A) (l : List A) → any p (l ++ (x ∷ [])) ≡ (any p l || p x)
+  unfolding any
+  any-snoc x l = any-append l (x ∷ []) ∙ ap (λ (b : Bool). any p l || b) (or-false (p x))
+
+-- ---- the elements that pass
+
+module _ {A : Type 0} (p : A → Bool) where
+  pub stands-keep : (x : A) (l : List A) → Stands x l → p x ≡ true → Stands x (keep p l)
+  unfolding keep
+  stands-keep x [] h e = h
+  stands-keep x (y ∷ l) h e =
+      bool-cases (p y)
+      (λ q. rw q (⊎-elim (λ r. inl r) (λ r. inr (stands-keep x l r e)) h))
+      (λ q. rw q (⊎-elim (λ r. absurd (clash e (ap p r ∙ q))) (λ r. stands-keep x l r e) h))
+
+  pub keep-stands : (x : A) (l : List A) → Stands x (keep p l) → Stands x l × (p x ≡ true)
+  unfolding keep
+  keep-stands x [] h = absurd h
+  keep-stands x (y ∷ l) h =
+      bool-cases (p y)
+      (λ q. ⊎-elim (λ r. (inl r, ap p r ∙ q)) (λ r. let i = keep-stands x l r in (inr (i .0), i .1)) (rw q at h))
+      (λ q. let i = keep-stands x l (rw q at h) in (inr (i .0), i .1))
+
+  pub keep-append : (l m : List A) → keep p (l ++ m) ≡ keep p l ++ keep p m
+  unfolding keep
+  keep-append [] m = refl
+  keep-append (x ∷ l) m = bool-cases (p x) (λ e. rw e (ap (λ (r : List A). x ∷ r) (keep-append l m))) (λ e. rw e (keep-append l m))
+
+  pub keep-snoc : (x : A) (l : List A) → keep p (l ++ (x ∷ [])) ≡ keep p l ++ cond (p x) (x ∷ []) []
+  unfolding keep
+  keep-snoc x l = keep-append l (x ∷ [])
+
+  -- one element more
+  pub keep-next : (d : A) (l : List A) (k : ℕ) → k < length l
+      → keep p (take (k + 1) l) ≡ keep p (take k l) ++ cond (p (getD l k d)) (getD l k d ∷ []) []
+  keep-next d l k h = ap (keep p) (rw add-one (take-suc l k d h)) ∙ keep-snoc (getD l k d) (take k l)
+
+  pub keep-took : (d : A) (l : List A) (k : ℕ) → k < length l → p (getD l k d) ≡ true
+      → keep p (take (k + 1) l) ≡ keep p (take k l) ++ (getD l k d ∷ [])
+  keep-took d l k h e = keep-next d l k h ∙ ap (λ (b : Bool). keep p (take k l) ++ cond b (getD l k d ∷ []) []) e
+
+  pub keep-left : (d : A) (l : List A) (k : ℕ) → k < length l → p (getD l k d) ≡ false → keep p (take (k + 1) l) ≡ keep p (take k l)
+  keep-left d l k h e =
+      keep-next d l k h ∙ ap (λ (b : Bool). keep p (take k l) ++ cond b (getD l k d ∷ []) []) e ∙ append-nil (keep p (take k l))
+
+  pub keep-length : (l : List A) → length (keep p l) ≤ length l
+  unfolding keep
+  keep-length [] = omega arith
+  keep-length (x ∷ l) = let i = keep-length l in bool-cases (p x) (λ e. rw e (omega arith)) (λ e. rw e (omega arith))
+
+  pub keep-all : (l : List A) → ((x : A) → Stands x l → p x ≡ true) → keep p l ≡ l
+  unfolding keep
+  keep-all [] f = refl
+  keep-all (x ∷ l) f = rw (f x (inl refl)) (ap (λ (r : List A). x ∷ r) (keep-all l (λ y h. f y (inr h))))
+
+  module _ (compare : A → A → Order) where
+    pub above-keep : (a : A) (l : List A) → Above compare a l → Above compare a (keep p l)
+    unfolding keep
+    above-keep a [] h = tt
+    above-keep a (x ∷ l) h =
+        let i = above-keep a l (h .1) in
+        bool-cases (p x) (λ e. rw e (h .0, i)) (λ e. rw e i)
+
+    pub rising-keep : (l : List A) → Rising compare l → Rising compare (keep p l)
+    unfolding keep
+    rising-keep [] h = tt
+    rising-keep (x ∷ l) h =
+        let i = rising-keep l (h .1) in
+        bool-cases (p x) (λ e. rw e (above-keep x l (h .0), i)) (λ e. rw e i)
+
+pub keep-ext : {A : Type 0} (p q : A → Bool) (l : List A) → ((x : A) → Stands x l → p x ≡ q x) → keep p l ≡ keep q l
+unfolding keep
+keep-ext p q [] f = refl
+keep-ext {A} p q (x ∷ l) f =
+    ap₂ (λ (b : Bool) (r : List A). cond b (x ∷ r) r) (f x (inl refl)) (keep-ext p q l (λ y h. f y (inr h)))
+
+-- ---- the first place that passes
+
+module _ {A : Type 0} (p : A → Bool) where
+  pub place-within : (l : List A) → place p l ≤ length l
+  unfolding place
+  place-within [] = omega arith
+  place-within (x ∷ l) = let i = place-within l in bool-cases (p x) (λ e. rw e (omega arith)) (λ e. rw e (omega arith))
+
+  pub place-found : (x : A) (l : List A) → Stands x l → p x ≡ true → place p l < length l
+  unfolding place
+  place-found x [] h e = absurd h
+  place-found x (y ∷ l) h e =
+      bool-cases (p y) (λ q. rw q (omega arith))
+      (λ q. rw q (⊎-elim (λ r. absurd (clash e (ap p r ∙ q))) (λ r. let i = place-found x l r e in omega arith) h))
+
+  pub place-at : (d : A) (l : List A) → place p l < length l → p (getD l (place p l) d) ≡ true
+  unfolding place
+  place-at d [] h = absurd (not-suc-le-zero h)
+  place-at d (x ∷ l) h =
+      bool-cases (p x) (λ e. rw e e) (λ e. rw e (place-at d l (le-of-suc-le-suc (rw e at h))))
+
+  pub place-before : (d : A) (l : List A) (j : ℕ) → j < place p l → p (getD l j d) ≡ false
+  unfolding place
+  place-before d [] j h = absurd (not-suc-le-zero h)
+  place-before d (x ∷ l) zero h = not-so (p x) (λ e. not-suc-le-zero (rw e at h))
+  place-before d (x ∷ l) (suc j) h =
+      bool-cases (p x) (λ e. absurd (not-suc-le-zero (rw e at h))) (λ e. place-before d l j (le-of-suc-le-suc (rw e at h)))
+
+  pub place-of : (d : A) (l : List A) (k : ℕ) → k < length l → p (getD l k d) ≡ true → ((j : ℕ) → j < k → p (getD l j d) ≡ false)
+      → place p l ≡ k
+  unfolding place
+  place-of d [] k h e f = absurd (not-suc-le-zero h)
+  place-of d (x ∷ l) zero h e f = rw e
+  place-of d (x ∷ l) (suc k) h e f =
+      rw (f 0 (omega arith)) (ap suc (place-of d l k (le-of-suc-le-suc h) e (λ j i. f (suc j) (omega arith))))
+
+  pub place-none : (l : List A) → any p l ≡ false → place p l ≡ length l
+  unfolding place any
+  place-none [] e = refl
+  place-none (x ∷ l) e =
+      bool-cases (p x) (λ q. absurd (clash (or-l (p x) (any p l) q) e))
+      (λ q. rw q (ap suc (place-none l (not-so (any p l) (λ r. clash (or-r (p x) (any p l) r) e)))))
+
+-- some element passes exactly if its place is within the list
+pub any-place : {A : Type 0} (p : A → Bool) (l : List A) → (any p l ≡ true) ↔ (place p l < length l)
+any-place p l = (
+  λ e. let i = any-true p l e in place-found p (i .0) l (i .1) (i .2),
+  λ h. bool-cases (any p l) (λ e. e) (λ e. absurd (let n = place-none p l e in omega arith)),
+)
+
+-- of a strictly ascending list, each element has one place: its own
+pub place-rising : {A : Type 0} {compare : A → A → Order} (laws : Orders compare) (same : A → A → Bool) (is : (a b : A) → (same a b ≡ true) ↔ (a ≡ b))
+    (d : A) (l : List A) (k : ℕ) → Rising compare l → k < length l → place (same (getD l k d)) l ≡ k
+place-rising {A} {compare} laws same is d l k rising h =
+    place-of (same (getD l k d)) d l k h (is (getD l k d) (getD l k d) .1 refl)
+    (λ j i. not-so (same (getD l k d) (getD l j d)) (λ e.
+    not-before-self laws (getD l j d)
+    (subst (λ (x : A). compare (getD l j d) x ≡ Before) (is (getD l k d) (getD l j d) .0 e) (rising-get laws d l j k rising i h))))
+
+-- ---- numbers below a bound
+
+-- a < suc b: below, or the same
+pub below-cases {ℓ} : {X : Type ℓ} (a b : ℕ) → a < suc b → (a < b → X) → (a ≡ b → X) → X
+below-cases a b h f g = ⊎-elim g f (eq-or-lt-of-le (le-of-suc-le-suc h))
+
+module _ (p : ℕ → Bool) where
+  pub below-true : (n : ℕ) → allBelow n p ≡ true → (k : ℕ) → k < n → p k ≡ true
+  unfolding allBelow
+  below-true zero e k h = absurd (not-suc-le-zero h)
+  below-true (suc n) e k h =
+      below-cases k n h (λ i. below-true n (and-l (allBelow n p) (p n) e) k i) (λ q. ap p q ∙ and-r (allBelow n p) (p n) e)
+
+  pub below-of : (n : ℕ) → ((k : ℕ) → k < n → p k ≡ true) → allBelow n p ≡ true
+  unfolding allBelow
+  below-of zero f = refl
+  below-of (suc n) f = and-i (below-of n (λ k h. f k (omega arith))) (f n (omega arith))
+
+  pub below-false : (n : ℕ) → allBelow n p ≡ false → (k : ℕ) × (k < n) × (p k ≡ false)
+  unfolding allBelow
+  below-false zero e = absurd (clash refl e)
+  below-false (suc n) e =
+      bool-cases (allBelow n p)
+      (λ q. (n, omega arith, sym (ap (λ (b : Bool). b && p n) q) ∙ e))
+      (λ q. let i = below-false n q in (i .0, omega (arith, i .1), i .2))
+
+pub below-ext : (n : ℕ) (p q : ℕ → Bool) → ((k : ℕ) → k < n → p k ≡ q k) → allBelow n p ≡ allBelow n q
+unfolding allBelow
+below-ext zero p q f = refl
+below-ext (suc n) p q f = ap₂ (λ (a b : Bool). a && b) (below-ext n p q (λ k h. f k (omega arith))) (f n (omega arith))
+
+pub sum-ext : (n : ℕ) (f g : ℕ → ℕ) → ((k : ℕ) → k < n → f k ≡ g k) → sumBelow n f ≡ sumBelow n g
+unfolding sumBelow
+sum-ext zero f g e = refl
+sum-ext (suc n) f g e = ap₂ (λ (a b : ℕ). a + b) (sum-ext n f g (λ k h. e k (omega arith))) (e n (omega arith))
+
+-- n terms of at most b
+pub sum-bound : (n b : ℕ) (f : ℕ → ℕ) → ((k : ℕ) → k < n → f k ≤ b) → sumBelow n f ≤ n * b
+unfolding sumBelow
+sum-bound zero b f h = omega arith
+sum-bound (suc n) b f h =
+    let i = sum-bound n b f (λ k g. h k (omega arith)) in
+    let j = h n (omega arith) in
+    rw suc-mul (omega arith)

@@ -1,0 +1,2 @@
+-- Words of the contracts on widened rows.
+pub mod Places
