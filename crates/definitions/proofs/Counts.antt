@@ -41,7 +41,7 @@ image-length ids rows f =
     let c = flatten-length (length ids) rows f in
     omega arith
 
-marks-length : (n set : ℕ) → length (marksFrom n set) ≡ n
+pub marks-length : (n set : ℕ) → length (marksFrom n set) ≡ n
 unfolding marksFrom
 marks-length zero set = refl
 marks-length (suc n) set = ap suc (marks-length n (set / 2 ^ 30))

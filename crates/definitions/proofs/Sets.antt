@@ -115,12 +115,12 @@ implies-no false b e = absurd (clash refl e)
 
 module _ (near : ℕ → ℕ → Bool) (n : ℕ) where
   -- the position j is near to every member, or some member is not near to it
-  near-all : (s : List Bool) (j : ℕ) → length s ≡ n → nearAll near n s j ≡ true → (k : ℕ) → Holds s k → near j k ≡ true
+  pub near-all : (s : List Bool) (j : ℕ) → length s ≡ n → nearAll near n s j ≡ true → (k : ℕ) → Holds s k → near j k ≡ true
   unfolding nearAll
   near-all s j e h k g =
       implies-use (marked s k) (near j k) (below-true (λ k. not (marked s k) || near j k) n h k (rw (← e) (holds-within s k g))) g
 
-  near-some-not : (s : List Bool) (j : ℕ) → nearAll near n s j ≡ false → (k : ℕ) × Holds s k × (near j k ≡ false)
+  pub near-some-not : (s : List Bool) (j : ℕ) → nearAll near n s j ≡ false → (k : ℕ) × Holds s k × (near j k ≡ false)
   unfolding nearAll
   near-some-not s j h =
       let i = below-false (λ k. not (marked s k) || near j k) n h in

@@ -1,1 +1,2 @@
 -- Laws of the table in work.
+pub mod Widen

@@ -1,0 +1,88 @@
+-- The words of the set list: the record of each set stands in its place, its three words mark its positions bit by bit, and its row word
+-- gives the place of its joined row. Assumes nothing.
+use mathlib.Core.Path.{_≡_, refl, sym, _∙_, ap, ap₂, subst}
+use mathlib.Core.Bool.{Bool, true, false, cond}
+use mathlib.Core.Logic.{_⊎_, inl, inr, ⊎-elim, _↔_}
+use mathlib.Core.List.{List, [], _∷_, _++_, map, flatten}
+use Prim.Native.Nat.{ℕ, zero, suc, _+_, _*_, _/_, _%_, _^_, _<_, _≤_}
+use native.Mathlib.Nat.{le-of-suc-le-suc, not-suc-le-zero, add-comm, suc-mul, zero-mul, div-one, div-div-eq-div-mul, pow-succ', zero-div}
+use native.Mathlib.Omega.{arith}
+use lib.ListN.{length, getD, take, drop, length-append}
+use lib.Seq.{take-at, drop-at, drop-drop, getD-at}
+use Rattle.definitions.specs.Limits.{markWords, setWidth}
+use Rattle.definitions.specs.Lists.{place}
+use Rattle.definitions.specs.Word.{wordOf}
+use Rattle.definitions.specs.ComplementUnion.{sameRow, marked, joined, unionSets, fusedRows}
+use Rattle.definitions.specs.SetList.{bits, marksFrom, fusedPlace, setRecord, setList}
+use Rattle.definitions.specs.Statements.{Stands}
+use Rattle.definitions.proofs.Bools.{bool-cases}
+use Rattle.definitions.proofs.Orders.{rows}
+use Rattle.definitions.proofs.Lists.{stands-get, map-stands, place-found, place-at, place-rising}
+use Rattle.definitions.proofs.Rows.{same-is}
+use Rattle.definitions.proofs.Unions.{fused-rise, fused-are}
+use Rattle.definitions.proofs.Counts.{marks-length, record-length}
+
+-- ---- records of c words, one after the other
+
+pub record-at : {A B : Type 0} (f : A → List B) (c : ℕ) → ((x : A) → length (f x) ≡ c) → (d : A) (l : List A) (k : ℕ) → k < length l
+    → take c (drop (k * c) (flatten (map f l))) ≡ f (getD l k d)
+unfolding flatten
+record-at f c e d [] k h = absurd (not-suc-le-zero h)
+record-at f c e d (x ∷ l) zero h = rw zero-mul (take-at (f x) (flatten (map f l)) c (e x))
+record-at {B = B} f c e d (x ∷ l) (suc k) h =
+    let rest = flatten (map f l) in
+    let at : suc k * c ≡ c + k * c = suc-mul k c ∙ add-comm (k * c) c in
+    ap (λ (n : ℕ). take c (drop n (f x ++ rest))) at
+    ∙ ap (λ (w : List B). take c w) (sym (drop-drop (k * c) c (f x ++ rest)) ∙ ap (λ (w : List B). drop (k * c) w) (drop-at (f x) rest c (e x)))
+    ∙ record-at f c e d l k (le-of-suc-le-suc h)
+
+module _ (t : List (List ℕ)) where
+  -- "then 4 words a set"
+  pub set-list-record : (k : ℕ) → k < length (unionSets t) → take setWidth (drop (1 + k * setWidth) (setList t)) ≡ setRecord t (getD (unionSets t) k [])
+  unfolding setList
+  set-list-record k h =
+      let at : 1 + k * setWidth ≡ suc (k * setWidth) = omega arith in
+      ap (λ (n : ℕ). take setWidth (drop n (setList t))) at
+      ∙ record-at (setRecord t) setWidth (record-length t) [] (unionSets t) k h
+
+  -- "and one of kind 1 with the joined row's position in the fused table"
+  pub row-word : (s : List Bool) → getD (setRecord t s) markWords 0 ≡ wordOf 1 (fusedPlace t s)
+  unfolding setRecord
+  row-word s = getD-at (marksFrom markWords (bits s)) (wordOf 1 (fusedPlace t s)) [] 0 markWords (marks-length markWords (bits s))
+
+  -- the joined row of a listed set stands in its place
+  module _ (s : List Bool) (h : Stands s (unionSets t)) where
+    pub fused-place-within : fusedPlace t s < length (fusedRows t)
+    fused-place-within =
+        place-found (sameRow (joined t s)) (joined t s) (fusedRows t) (fused-are t (joined t s) .1 (s, h, refl)) (same-is (joined t s) (joined t s) .1 refl)
+
+    pub fused-place-at : getD (fusedRows t) (fusedPlace t s) [] ≡ joined t s
+    fused-place-at =
+        sym (same-is (joined t s) (getD (fusedRows t) (fusedPlace t s) []) .0 (place-at (sameRow (joined t s)) [] (fusedRows t) fused-place-within))
+
+  -- and in no other
+  pub fused-place-of : (s : List Bool) (k : ℕ) → k < length (fusedRows t) → getD (fusedRows t) k [] ≡ joined t s → fusedPlace t s ≡ k
+  fused-place-of s k h e =
+      ap (λ (r : List ℕ). place (sameRow r) (fusedRows t)) (sym e) ∙ place-rising rows sameRow same-is [] (fusedRows t) k (fused-rise t) h
+
+-- ---- marks
+
+bit-low : (m : Bool) (x : ℕ) → (cond m 1 0 + 2 * x) % 2 ≡ cond m 1 0
+bit-low true x = omega arith
+bit-low false x = omega arith
+
+bit-high : (m : Bool) (x : ℕ) → (cond m 1 0 + 2 * x) / 2 ≡ x
+bit-high true x = omega arith
+bit-high false x = omega arith
+
+-- bit k of a set's number marks position k
+pub bit-marks : (s : List Bool) (k : ℕ) → bits s / 2 ^ k % 2 ≡ cond (marked s k) 1 0
+unfolding bits marked
+bit-marks [] k = ap (λ (x : ℕ). x % 2) (zero-div (2 ^ k))
+bit-marks (m ∷ s) zero = ap (λ (x : ℕ). x % 2) (div-one (cond m 1 0 + 2 * bits s)) ∙ bit-low m (bits s)
+bit-marks (m ∷ s) (suc k) =
+    ap (λ (x : ℕ). x % 2)
+    (ap (λ (x : ℕ). (cond m 1 0 + 2 * bits s) / x) (pow-succ' 2 k)
+    ∙ sym (div-div-eq-div-mul (cond m 1 0 + 2 * bits s) 2 (2 ^ k))
+    ∙ ap (λ (x : ℕ). x / 2 ^ k) (bit-high m (bits s)))
+    ∙ bit-marks s k

@@ -1,0 +1,145 @@
+-- The columns of the union, T and the fused table in words: strictly ascending, with exactly the ids, widened rows or joined rows that
+-- they are made of, and determined by that; and how long their rows are. Assumes nothing.
+use mathlib.Core.Path.{_≡_, refl, sym, _∙_, ap, subst}
+use mathlib.Core.Bool.{Bool, true, false}
+use mathlib.Core.Logic.{_⊎_, inl, inr, ⊎-elim, _↔_}
+use mathlib.Core.List.{List, [], _∷_, _++_, map}
+use Prim.Native.Nat.{ℕ, zero, suc, _+_, _*_, _<_, _≤_}
+use lib.ListN.{length, getD, length-map}
+use Rattle.definitions.specs.declared.Order.{Order}
+use Rattle.definitions.specs.Image.{imageIds, imageRows}
+use Rattle.definitions.specs.Ascending.{ascending}
+use Rattle.definitions.specs.OuterUnion.{compareWord, compareRow, unionIds, cellIn, widened, widenedRows, unionRows}
+use Rattle.definitions.specs.MinimumUnion.{minimumRows}
+use Rattle.definitions.specs.ComplementUnion.{complementAt, joined, unionSets, fusedRows}
+use Rattle.definitions.specs.Calls.{outerImage, minimumImage, fusedImage}
+use Rattle.definitions.specs.Statements.{Stands, Orders, Rising}
+use Rattle.definitions.proofs.Ascending.{stands-split, stands-join, is-rising, ascending-has, ascending-only, determined}
+use Rattle.definitions.proofs.Orders.{words, rows}
+use Rattle.definitions.proofs.Lists.{stands-map, map-stands}
+use Rattle.definitions.proofs.Sets.{listed-is}
+use Rattle.definitions.proofs.Joined.{joined-length}
+use Rattle.definitions.proofs.Minimum.{minimum-is}
+use Rattle.definitions.proofs.Counts.{image-length}
+
+-- ---- over any order
+
+module _ {A : Type 0} {compare : A → A → Order} (laws : Orders compare) where
+  pub ascending-are : (l : List A) (x : A) → Stands x (ascending compare l) ↔ Stands x l
+  ascending-are l x = (ascending-only laws x l, ascending-has laws x l)
+
+  -- no other strictly ascending list has these elements
+  pub ascending-alone : (l t : List A) → Rising compare t → ((x : A) → Stands x t ↔ Stands x l) → t ≡ ascending compare l
+  ascending-alone l t h f =
+      determined laws t (ascending compare l) h (is-rising laws l)
+      (λ x k. ascending-has laws x l (f x .0 k)) (λ x k. f x .1 (ascending-only laws x l k))
+
+  pub both-are : (l m : List A) (x : A) → Stands x (ascending compare (l ++ m)) ↔ (Stands x l ⊎ Stands x m)
+  both-are l m x = (
+    λ h. stands-split x l m (ascending-only laws x (l ++ m) h),
+    λ h. ascending-has laws x (l ++ m) (stands-join x l m h),
+  )
+
+  both-alone : (l m t : List A) → Rising compare t → ((x : A) → Stands x t ↔ (Stands x l ⊎ Stands x m)) → t ≡ ascending compare (l ++ m)
+  both-alone l m t h f =
+      ascending-alone (l ++ m) t h (λ x. (λ k. stands-join x l m (f x .0 k), λ k. f x .1 (stands-split x l m k)))
+
+module _ (a b : List ℕ) where
+  -- ---- "Its columns are the ids of both tables, ascending, each once."
+
+  pub ids-rise : Rising compareWord (unionIds a b)
+  unfolding unionIds
+  ids-rise = is-rising words (imageIds a ++ imageIds b)
+
+  pub ids-are : (id : ℕ) → Stands id (unionIds a b) ↔ (Stands id (imageIds a) ⊎ Stands id (imageIds b))
+  unfolding unionIds
+  ids-are id = both-are words (imageIds a) (imageIds b) id
+
+  pub ids-alone : (t : List ℕ) → Rising compareWord t → ((id : ℕ) → Stands id t ↔ (Stands id (imageIds a) ⊎ Stands id (imageIds b))) → t ≡ unionIds a b
+  unfolding unionIds
+  ids-alone t h f = both-alone words (imageIds a) (imageIds b) t h f
+
+  -- ---- "T is the list of distinct rows, ascending"
+
+  -- a row of an image, with empty cells in the columns that its table lacks
+  abbrev pub WidenedOf : List ℕ → List ℕ → Type 0
+  WidenedOf image r = (row : List ℕ) × Stands row (imageRows image) × (r ≡ widened (unionIds a b) (imageIds image) row)
+
+  widened-are : (image r : List ℕ) → Stands r (widenedRows (unionIds a b) image) ↔ WidenedOf image r
+  unfolding widenedRows
+  widened-are image r = (
+    map-stands (widened (unionIds a b) (imageIds image)) r (imageRows image),
+    λ i. subst (λ (x : List ℕ). Stands x (map (widened (unionIds a b) (imageIds image)) (imageRows image))) (sym (i .2))
+        (stands-map (widened (unionIds a b) (imageIds image)) (i .0) (imageRows image) (i .1)),
+  )
+
+  pub rows-rise : Rising compareRow (unionRows a b)
+  unfolding unionRows
+  rows-rise = is-rising rows (widenedRows (unionIds a b) a ++ widenedRows (unionIds a b) b)
+
+  pub rows-are : (r : List ℕ) → Stands r (unionRows a b) ↔ (WidenedOf a r ⊎ WidenedOf b r)
+  unfolding unionRows
+  rows-are r = (
+    λ h. ⊎-elim (λ p. inl (widened-are a r .0 p)) (λ p. inr (widened-are b r .0 p)) (both-are rows (widenedRows (unionIds a b) a) (widenedRows (unionIds a b) b) r .0 h),
+    λ h. both-are rows (widenedRows (unionIds a b) a) (widenedRows (unionIds a b) b) r .1
+        (⊎-elim (λ p. inl (widened-are a r .1 p)) (λ p. inr (widened-are b r .1 p)) h),
+  )
+
+  pub rows-alone : (t : List (List ℕ)) → Rising compareRow t → ((r : List ℕ) → Stands r t ↔ (WidenedOf a r ⊎ WidenedOf b r)) → t ≡ unionRows a b
+  rows-alone t h f =
+      determined rows t (unionRows a b) h rows-rise (λ r k. rows-are r .1 (f r .0 k)) (λ r k. f r .1 (rows-are r .0 k))
+
+  widened-length : (image r : List ℕ) → WidenedOf image r → length r ≡ length (unionIds a b)
+  unfolding widened
+  widened-length image r i =
+      ap (λ (l : List ℕ). length l) (i .2) ∙ length-map (unionIds a b) (cellIn (imageIds image) (i .0))
+
+  -- every row of T has a cell for each column of the union
+  pub rows-even : (r : List ℕ) → Stands r (unionRows a b) → length r ≡ length (unionIds a b)
+  rows-even r h = ⊎-elim (widened-length a r) (widened-length b r) (rows-are r .0 h)
+
+-- ---- "The fused table holds the distinct joined rows, ascending."
+
+module _ (t : List (List ℕ)) where
+  -- the joined row of a listed set
+  abbrev pub JoinedOf : List ℕ → Type 0
+  JoinedOf r = (s : List Bool) × Stands s (unionSets t) × (r ≡ joined t s)
+
+  pub fused-rise : Rising compareRow (fusedRows t)
+  unfolding fusedRows
+  fused-rise = is-rising rows (map (joined t) (unionSets t))
+
+  pub fused-are : (r : List ℕ) → Stands r (fusedRows t) ↔ JoinedOf r
+  unfolding fusedRows
+  fused-are r = (
+    λ h. map-stands (joined t) r (unionSets t) (ascending-only rows r (map (joined t) (unionSets t)) h),
+    λ i. ascending-has rows r (map (joined t) (unionSets t))
+        (subst (λ (x : List ℕ). Stands x (map (joined t) (unionSets t))) (sym (i .2)) (stands-map (joined t) (i .0) (unionSets t) (i .1))),
+  )
+
+  pub fused-alone : (f : List (List ℕ)) → Rising compareRow f → ((r : List ℕ) → Stands r f ↔ JoinedOf r) → f ≡ fusedRows t
+  fused-alone f h g =
+      determined rows f (fusedRows t) h fused-rise (λ r k. fused-are r .1 (g r .0 k)) (λ r k. g r .1 (fused-are r .0 k))
+
+  -- fused rows are as long as the rows that they are joined of
+  pub fused-even : (n : ℕ) → ((r : List ℕ) → Stands r t → length r ≡ n) → (r : List ℕ) → Stands r (fusedRows t) → length r ≡ n
+  unfolding unionSets
+  fused-even n f r h =
+      let i = fused-are r .0 h in
+      let c = listed-is (complementAt t) (length t) (i .0) .0 (i .1) .complementing in
+      ap (λ (l : List ℕ). length l) (i .2) ∙ joined-length t n f (i .0) (c .size) (c .some .0) (c .some .1)
+
+-- ---- the words of the results
+
+module _ (a b : List ℕ) where
+  pub outer-length : length (outerImage a b) ≡ 1 + length (unionIds a b) + length (unionRows a b) * length (unionIds a b)
+  unfolding outerImage
+  outer-length = image-length (unionIds a b) (unionRows a b) (rows-even a b)
+
+  pub minimum-length : length (minimumImage a b) ≡ 1 + length (unionIds a b) + length (minimumRows (unionRows a b)) * length (unionIds a b)
+  unfolding minimumImage
+  minimum-length = image-length (unionIds a b) (minimumRows (unionRows a b)) (λ r h. rows-even a b r (minimum-is (unionRows a b) r .0 h .0))
+
+  pub fused-length : length (fusedImage a b) ≡ 1 + length (unionIds a b) + length (fusedRows (unionRows a b)) * length (unionIds a b)
+  unfolding fusedImage
+  fused-length = image-length (unionIds a b) (fusedRows (unionRows a b)) (fused-even (unionRows a b) (length (unionIds a b)) (rows-even a b))

@@ -1,0 +1,118 @@
+-- Laws of the filled pattern of a row: its bound, its next bit, and that its ones are the filled cells. Assumes nothing.
+use mathlib.Core.Path.{_≡_, refl, sym, _∙_, ap, ap₂}
+use mathlib.Core.Bool.{Bool, true, false, cond}
+use mathlib.Core.List.{List, [], _∷_, _++_, map, flatten}
+use Prim.Native.Nat.{ℕ, suc, _+_, _-_, _*_, _/_, _%_, _^_, _<_, _≤_}
+use native.Mathlib.Nat.{pow-suc, lt-of-lt-of-le, zero-add, add-mul, one-mul}
+use native.Mathlib.Numerals.{add-one}
+use native.Mathlib.Omega.{arith}
+use lib.ListN.{length, getD, take, drop, set, length-take, length-drop, length-map, drop-of-length-le, List·getD-map}
+use lib.Seq.{drop-cons, take-all, paste, paste-suc}
+use lib.Bits.{bitOr, or-shifted}
+use lib.Pow.{pow-mono}
+use lib.Count.{ones, ones-step}
+use Rattle.definitions.specs.Limits.{maxColumns}
+use Rattle.definitions.specs.Word.{isFilled}
+use Rattle.definitions.specs.Image.{rowsIn}
+use Rattle.definitions.specs.MinimumUnion.{filled}
+use Rattle.definitions.specs.SetList.{bits}
+use Rattle.lists.proofs.Flat.{rows-length, rows-at, row-fits, row-next, part-row}
+use Rattle.patterns.specs.Pattern.{patternOf}
+
+-- 1 for a filled cell, 0 for the empty cell
+abbrev pub bitOf : ℕ → ℕ
+bitOf x = cond (isFilled x) 1 0
+
+pub bit-small : (b : Bool) → cond b 1 0 < 2
+bit-small true = omega arith
+bit-small false = omega arith
+
+pub pattern-step : (x : ℕ) (s : List ℕ) → patternOf (x ∷ s) ≡ bitOf x + 2 * patternOf s
+unfolding patternOf bits
+pattern-step x s = refl
+
+pattern-lt : (s : List ℕ) → patternOf s < 2 ^ length s
+unfolding patternOf bits
+pattern-lt [] = omega arith
+pattern-lt (x ∷ s) = rw (pow-suc 2 (length s)) (omega (arith, pattern-lt s, bit-small (isFilled x)))
+
+pub pattern-small : (s : List ℕ) → length s ≤ maxColumns → patternOf s < 2 ^ maxColumns
+pattern-small s h = lt-of-lt-of-le (pattern-lt s) (pow-mono h)
+
+pub ones-pattern : (s : List ℕ) → ones (patternOf s) ≡ filled s
+unfolding patternOf bits filled ones
+ones-pattern [] = refl
+ones-pattern (x ∷ s) =
+    let n = bitOf x + 2 * patternOf s in
+    let r : n % 2 ≡ bitOf x = omega (arith, bit-small (isFilled x)) in
+    let q : n / 2 ≡ patternOf s = omega (arith, bit-small (isFilled x)) in
+    ones-step n ∙ ap₂ _+_ r (ap ones q ∙ ones-pattern s)
+
+-- a cell more, from the last to the first
+pub pattern-turn : (row : List ℕ) (i p b : ℕ) → length row ≤ maxColumns → 0 < i → i ≤ length row → p ≡ patternOf (drop i row) → b ≡ bitOf (getD row (i - 1) 0)
+    → bitOr (p * 2 % 2 ^ 32) b ≡ patternOf (drop (i - 1) row)
+pattern-turn row i p b few pos le e f =
+    let n : suc (i - 1) ≡ i = omega arith in
+    let small : p < 65536 = rw e (pattern-small (drop i row) (simp length-drop (omega arith))) in
+    let s : p * 2 % 2 ^ 32 ≡ p * 2 ^ 1 = omega arith in
+    let t : b < 2 ^ 1 = rw f (bit-small (isFilled (getD row (i - 1) 0))) in
+    let next : patternOf (drop (i - 1) row) ≡ b + 2 * p =
+    ap patternOf (drop-cons row (i - 1) 0 (omega arith) ∙ ap (λ (k : ℕ). getD row (i - 1) 0 ∷ drop k row) n)
+    ∙ pattern-step (getD row (i - 1) 0) (drop i row)
+    ∙ ap₂ (λ (x y : ℕ). x + 2 * y) (sym f) (sym e) in
+    ap (λ (k : ℕ). bitOr k b) s ∙ or-shifted p 1 b t ∙ omega arith
+
+-- ---- the filled cells of rows
+
+filled-append : (u v : List ℕ) → filled (u ++ v) ≡ filled u + filled v
+unfolding filled
+filled-append [] v = omega arith
+filled-append (x ∷ u) v = omega (arith, filled-append u v)
+
+filled-le : (s : List ℕ) → filled s ≤ length s
+unfolding filled
+filled-le [] = omega arith
+filled-le (x ∷ s) = omega (arith, filled-le s, bit-small (isFilled x))
+
+-- ---- a walk over n rows of c words, at the row i
+
+module _ (c n i at : ℕ) (w : List ℕ) (more : i < n) (here : at ≡ i * c) where
+  pub row-ends : n * c ≤ length w → at + c ≤ length w
+  row-ends h = omega (arith, row-fits c n i more)
+
+  pub next-row : at + c ≡ (i + 1) * c
+  next-row = omega (arith, add-mul i 1 c, one-mul c)
+
+  row-here : take (at + c - at) (drop at w) ≡ take c (drop (i * c) w)
+  row-here = part-row c at w ∙ ap (λ (k : ℕ). take c (drop k w)) here
+
+  pub filled-turn : (total r all : ℕ) → r ≡ filled (take (at + c - at) (drop at w)) → total + filled (flatten (drop i (rowsIn c n w))) ≡ all
+      → total + r + filled (flatten (drop (i + 1) (rowsIn c n w))) ≡ all
+  unfolding flatten
+  filled-turn total r all e inv =
+      let next : filled (flatten (drop i (rowsIn c n w))) ≡ filled (take c (drop (i * c) w)) + filled (flatten (drop (i + 1) (rowsIn c n w))) =
+      ap (λ (t : List (List ℕ)). filled (flatten t)) (row-next c n i w more)
+      ∙ filled-append (take c (drop (i * c) w)) (flatten (drop (i + 1) (rowsIn c n w))) in
+      omega (arith, next, e ∙ ap filled row-here)
+
+  pub filled-fits : (r : ℕ) → r ≡ filled (take (at + c - at) (drop at w)) → r ≤ c
+  filled-fits r e = omega (arith, e ∙ ap filled row-here, filled-le (take c (drop (i * c) w)), length-take c (drop (i * c) w))
+
+  pub patterns-turn : (found now : List ℕ) (p : ℕ) → n ≤ length found → now ≡ paste found 0 (map patternOf (rowsIn c n w)) i
+      → p ≡ patternOf (take (at + c - at) (drop at w)) → set now i p ≡ paste found 0 (map patternOf (rowsIn c n w)) (i + 1)
+  unfolding patternOf bits
+  patterns-turn found now p room inv e =
+      let l : length (map patternOf (rowsIn c n w)) ≡ n = length-map (rowsIn c n w) patternOf ∙ rows-length c n w in
+      let entry : p ≡ getD (map patternOf (rowsIn c n w)) i 0 =
+      e ∙ ap patternOf (row-here ∙ sym (rows-at c n i w more)) ∙ sym (List·getD-map patternOf (rowsIn c n w) i []) in
+      rw (add-one, entry, inv) (ap (λ (k : ℕ). set (paste found 0 (map patternOf (rowsIn c n w)) i) k (getD (map patternOf (rowsIn c n w)) i 0)) (sym (zero-add i)) ∙ paste-suc found 0 (map patternOf (rowsIn c n w)) i 0 (omega arith) (omega arith))
+
+pub patterns-end : (c n : ℕ) (w found : List ℕ) → paste found 0 (map patternOf (rowsIn c n w)) n ≡ map patternOf (rowsIn c n w) ++ drop n found
+patterns-end c n w found =
+    let l : length (map patternOf (rowsIn c n w)) ≡ n = length-map (rowsIn c n w) patternOf ∙ rows-length c n w in
+    rw (zero-add, take-all n (map patternOf (rowsIn c n w)) (omega arith))
+
+-- no rows are left
+pub filled-end : (c n : ℕ) (w : List ℕ) → filled (flatten (drop n (rowsIn c n w))) ≡ 0
+unfolding filled flatten
+filled-end c n w = rw (drop-of-length-le (rowsIn c n w) {i = n} (omega (arith, rows-length c n w)))

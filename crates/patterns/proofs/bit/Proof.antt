@@ -1,0 +1,13 @@
+-- `bit` meets its contract: a cell is filled where it isn't zero. Assumes nothing.
+use borrow.Author.Tests.{eq-eqb, ne-eqb}
+use Rattle.patterns.proofs.bit.Statement.{statement}
+use Rattle.patterns.proofs.bit.Tie as tie
+
+returns : tie.Need-returns
+returns c = rw (eq-eqb _ 0 (c .if1 .taken))
+
+returns-2 : tie.Need-returns-2
+returns-2 c = rw (ne-eqb _ 0 (c .if1 .left))
+
+pub bit-spec : {M : Type 1} → statement M
+bit-spec = tie.close (tie.spec returns returns-2)

@@ -1,0 +1,2 @@
+-- The filled patterns of rows.
+pub mod Pattern

@@ -1,0 +1,86 @@
+// The filled patterns of rows, and the count of filled cells by the ones of a pattern.
+ghost use mathlib.Core.Path.{_≡_};
+ghost use mathlib.Core.Bool.{cond};
+ghost use mathlib.Core.List.{_++_, flatten, map};
+ghost use Prim.Native.Nat.{_*_, _≤_, _<_, _^_};
+ghost use lib.ListN.{length, drop};
+ghost use lib.Count.{ones};
+ghost use Rattle.definitions.specs.Limits.{maxColumns};
+ghost use Rattle.definitions.specs.Word.{isFilled};
+ghost use Rattle.definitions.specs.Image.{rowsIn};
+ghost use Rattle.definitions.specs.MinimumUnion.{filled};
+ghost use Rattle.patterns.specs.Pattern.{patternOf};
+
+mod ones;
+
+// The ones of a word.
+pub fn count_ones(p: u32) -> u32
+    ensures { λ r. ⌜ r ≡ ones p ⌝ }
+{
+    let low = ones::in_byte((p & 255) as usize);
+    let second = ones::in_byte(((p >> 8) & 255) as usize);
+    let third = ones::in_byte(((p >> 16) & 255) as usize);
+    let high = ones::in_byte((p >> 24) as usize);
+    low as u32 + second as u32 + third as u32 + high as u32
+}
+
+// 1 for a filled cell, 0 for the empty cell.
+fn bit(cell: u32) -> u32
+    ensures { λ r. ⌜ r ≡ cond (isFilled cell) 1 0 ⌝ }
+{
+    if cell == 0 { 0 } else { 1 }
+}
+
+// The filled pattern of a row.
+pub fn pattern(row: &[u32]) -> u32
+    requires { ⌜ length (now row) ≤ maxColumns ⌝ }
+    ensures { λ r. ⌜ (r ≡ patternOf (now (row .entry))) × (r < 2 ^ maxColumns) ⌝ }
+{
+    let mut p = 0;
+    let mut i = row.len();
+    while 0 < i {
+        i -= 1;
+        p = (p << 1) | bit(row[i]);
+    }
+    p
+}
+
+// The filled cells of a row.
+pub fn count_filled(row: &[u32]) -> u32
+    requires { ⌜ length (now row) ≤ maxColumns ⌝ }
+    ensures { λ r. ⌜ r ≡ filled (now (row .entry)) ⌝ }
+{
+    count_ones(pattern(row))
+}
+
+// The filled cells of the first n rows of width cells.
+pub fn count_rows(cells: &[u32], n: usize, width: usize) -> usize
+    requires { ⌜ (width ≤ maxColumns) × (n * width ≤ length (now cells)) ⌝ }
+    ensures { λ r. ⌜ r ≡ filled (flatten (rowsIn width n (now (cells .entry)))) ⌝ }
+{
+    let mut total = 0;
+    let mut i = 0;
+    let mut at = 0;
+    while i < n {
+        let next = at + width;
+        total += count_filled(&cells[at..next]) as usize;
+        at = next;
+        i += 1;
+    }
+    total
+}
+
+// Writes the filled patterns of the first n rows of width cells over the first n words of `patterns`.
+pub fn row_patterns(cells: &[u32], n: usize, width: usize, patterns: &mut [u32])
+    requires { ⌜ (width ≤ maxColumns) × (n * width ≤ length (now cells)) × (n ≤ length (now patterns)) ⌝ }
+    ensures { λ r. ⌜ now (patterns .exit) ≡ map patternOf (rowsIn width n (now (cells .entry))) ++ drop n (now (patterns .entry)) ⌝ }
+{
+    let mut i = 0;
+    let mut at = 0;
+    while i < n {
+        let next = at + width;
+        patterns[i] = pattern(&cells[at..next]);
+        at = next;
+        i += 1;
+    }
+}
