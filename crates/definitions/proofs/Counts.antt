@@ -1,16 +1,16 @@
 -- Lengths and counts: of images, set lists, distinct lists, and the pairs tried. Assumes nothing.
-use mathlib.Core.Path.{_≡_, refl, sym, _∙_, ap, ap₂}
-use mathlib.Core.Bool.{Bool, true, false, cond}
+use mathlib.Core.Path.{_≡_, refl, sym, _∙_, ap}
+use mathlib.Core.Bool.{Bool}
 use mathlib.Core.Logic.{inl, inr}
-use mathlib.Core.List.{List, [], _∷_, _++_, map, flatten}
+use mathlib.Core.List.{List, [], _∷_, map, flatten}
 use Prim.Native.Nat.{ℕ, zero, suc, _+_, _-_, _*_, _/_, _^_, _<_, _≤_}
-use native.Mathlib.Nat.{suc-mul, zero-mul, mul-comm}
+use native.Mathlib.Nat.{suc-mul, zero-mul}
 use native.Mathlib.Omega.{arith}
 use lib.ListN.{length, getD, take, drop, length-append, length-take, length-drop, length-map}
 use Rattle.definitions.specs.declared.Order.{Order}
 use Rattle.definitions.specs.declared.Order.the-variants.{Before, Same, After}
 use Rattle.definitions.specs.Limits.{markWords, setWidth}
-use Rattle.definitions.specs.Lists.{without, sumBelow}
+use Rattle.definitions.specs.Lists.{without}
 use Rattle.definitions.specs.Word.{columnWord}
 use Rattle.definitions.specs.Image.{imageOf}
 use Rattle.definitions.specs.Ascending.{put, insert, ascending}

@@ -1,29 +1,30 @@
 -- Demand 3, sentence by sentence, as theorems over the definitions. T is `unionRows a b`. Assumes nothing.
 use mathlib.Core.Path.{_≡_, refl, sym, _∙_, ap, ap₂}
-use mathlib.Core.Bool.{Bool, true, false}
-use mathlib.Core.Logic.{_⊎_, inl, inr, ⊎-elim, _↔_}
-use mathlib.Core.List.{List, [], _∷_, _++_}
-use Prim.Native.Nat.{ℕ, _+_, _*_, _<_, _≤_}
+use mathlib.Core.Bool.{Bool, true, cond}
+use mathlib.Core.Logic.{_⊎_, _↔_}
+use mathlib.Core.List.{List, [], _++_}
+use Prim.Native.Nat.{ℕ, _+_, _*_, _/_, _%_, _^_, _<_}
 use lib.ListN.{length, getD, take, drop}
 use Rattle.definitions.specs.Limits.{markWords, setWidth}
 use Rattle.definitions.specs.Word.{wordOf}
 use Rattle.definitions.specs.Image.{imageOf}
 use Rattle.definitions.specs.OuterUnion.{compareRow, unionIds, unionRows}
 use Rattle.definitions.specs.MinimumUnion.{subsumes, minimumRows}
-use Rattle.definitions.specs.ComplementUnion.{compareSet, complementAt, joined, unionSets, fusedRows}
+use Rattle.definitions.specs.ComplementUnion.{marked, compareSet, complementAt, joined, unionSets, fusedRows}
 use Rattle.definitions.specs.SetList.{fusedPlace, setRecord, setList}
 use Rattle.definitions.specs.Answer.{Outcome, done, refused, afterwards}
-use Rattle.definitions.specs.Calls.{pairNumber, fusedImage, complementOutcome}
+use Rattle.definitions.specs.Calls.{fusedImage, complementOutcome}
 use Rattle.definitions.specs.Statements.{Stands, Rising}
 use Rattle.definitions.proofs.Lists.{stands-at}
-use Rattle.definitions.proofs.Rows.{complement-sym}
-use Rattle.definitions.proofs.Sets.{listed-is, listed-rise, every-position}
+use Rattle.definitions.proofs.Complementing.{complement-sym}
+use Rattle.definitions.proofs.Sets.{listed-is, listed-rise}
+use Rattle.definitions.proofs.Completion.{every-position}
 use Rattle.definitions.proofs.MaximalRows.{MaximalRows, maximal-rows, rows-maximal}
 use Rattle.definitions.proofs.Joined.{members-are, member-covered}
 use Rattle.definitions.proofs.Minimum.{minimum-is}
 use Rattle.definitions.proofs.Unions.{rows-rise, rows-even, fused-rise, fused-are, JoinedOf}
-use Rattle.definitions.proofs.SetWords.{set-list-record, row-word, fused-place-within, fused-place-at}
-use Rattle.definitions.proofs.Questions.{Accepted, accepted-on}
+use Rattle.definitions.proofs.SetWords.{set-list-record, mark-bit, row-word, fused-place-within, fused-place-at}
+use Rattle.definitions.proofs.Outcomes.{Accepted, accepted-on}
 
 module _ (a b : List ℕ) where
   abbrev T : List (List ℕ)
@@ -44,6 +45,9 @@ module _ (a b : List ℕ) where
 
   pub listed-in-place : (k : ℕ) → k < length (unionSets T) → take setWidth (drop (1 + k * setWidth) (setList T)) ≡ setRecord T (getD (unionSets T) k [])
   listed-in-place = set-list-record T
+
+  pub listed-by-marks : (s : List Bool) (i j : ℕ) → i < markWords → j < 30 → getD (setRecord T s) i 0 / 2 ^ j % 2 ≡ cond (marked s (30 * i + j)) 1 0
+  listed-by-marks = mark-bit T
 
   -- "with the position of its joined row in the fused table."
   pub listed-with-row : (s : List Bool) → Stands s (unionSets T)

@@ -1,9 +1,9 @@
 -- The joined row of a set, column by column; and that it covers each member where the members agree pairwise. Assumes nothing.
 use mathlib.Core.Path.{_≡_, refl, sym, _∙_, ap, ap₂, subst}
-use mathlib.Core.Bool.{Bool, true, false, cond}
+use mathlib.Core.Bool.{Bool, true, cond}
 use mathlib.Core.Logic.{_⊎_, inl, inr, ⊎-elim, _↔_}
 use mathlib.Core.List.{List, [], _∷_}
-use Prim.Native.Nat.{ℕ, zero, suc, _<_, _≤_}
+use Prim.Native.Nat.{ℕ, zero, suc, _<_}
 use native.Mathlib.Nat.{le-of-suc-le-suc, not-suc-le-zero}
 use native.Mathlib.Omega.{arith}
 use lib.Dec.{eqb}
@@ -15,7 +15,9 @@ use Rattle.definitions.specs.ComplementUnion.{agree, complement, complem
 use Rattle.definitions.specs.Statements.{Stands}
 use Rattle.definitions.proofs.Bools.{bool-cases, clash}
 use Rattle.definitions.proofs.Lists.{stands-get}
-use Rattle.definitions.proofs.Rows.{Filled, filled-cell, empty-cell, cell-filled, cell-empty, CellAgrees, agree-at, agree-of, covers-of, covers-cases, complement-is}
+use Rattle.definitions.proofs.Rows.{Filled, filled-cell, empty-cell, cell-filled, cell-empty, CellAgrees, agree-at, agree-of, covers-of}
+use Rattle.definitions.proofs.Subsumption.{covers-cases}
+use Rattle.definitions.proofs.Complementing.{complement-is}
 use Rattle.definitions.proofs.Sets.{Holds, Complementing, holds-within}
 
 -- ---- the joined row of a list of rows
@@ -134,10 +136,15 @@ members-are rows s r = (
   λ i. subst (λ (u : List ℕ). Stands u (members rows s)) (sym (i .3)) (members-at rows s (i .0) (i .1) (i .2)),
 )
 
-module _ (rows : List (List ℕ)) (s : List Bool) (c : Complementing (complementAt rows) (length rows) s) where
-  agree-self : (r : List ℕ) → agree r r ≡ true
-  agree-self r = agree-of r r (λ k. inl refl)
+members-even : (rows : List (List ℕ)) (n : ℕ) → ((r : List ℕ) → Stands r rows → length r ≡ n) → (s : List Bool) (r : List ℕ) → Stands r (members rows s) → length r ≡ n
+members-even rows n f s r h =
+    let i = members-from rows s r h in
+    ap (λ (u : List ℕ). length u) (i .3) ∙ f (getD rows (i .0) []) (stands-get [] rows (i .0) (i .1))
 
+agree-self : (r : List ℕ) → agree r r ≡ true
+agree-self r = agree-of r r (λ k. inl refl)
+
+module _ (rows : List (List ℕ)) (s : List Bool) (c : Complementing (complementAt rows) (length rows) s) where
   -- the members of a complementing set agree
   pub members-agree : (r t : List ℕ) → Stands r (members rows s) → Stands t (members rows s) → agree r t ≡ true
   members-agree r t h g =
@@ -155,16 +162,23 @@ module _ (rows : List (List ℕ)) (s : List Bool) (c : Complementing (complement
       → (joined rows s ≡ r) ⊎ (subsumes (joined rows s) r ≡ true)
   unfolding joined
   member-covered n f r h =
-      let even : (t : List ℕ) → Stands t (members rows s) → length t ≡ n =
-      λ t g. let i = members-from rows s t g in ap (λ (u : List ℕ). length u) (i .3) ∙ f (getD rows (i .0) []) (stands-get [] rows (i .0) (i .1)) in
+      let even = members-even rows n f s in
       covers-cases (joinAll (members rows s)) r (join-some-length n (members rows s) even r h ∙ sym (even r h))
       (join-covers (members rows s) members-agree r h)
+
+-- "The joined row of a set has, in each column, the number that some member has there, or empty."
+module _ (rows : List (List ℕ)) (s : List Bool) (k : ℕ) where
+  pub joined-some : Filled (getD (joined rows s) k 0) → (r : List ℕ) × Stands r (members rows s) × (getD (joined rows s) k 0 ≡ getD r k 0)
+  unfolding joined
+  joined-some = join-some (members rows s) k
+
+  pub joined-empty : (getD (joined rows s) k 0 ≡ 0) ↔ ((r : List ℕ) → Stands r (members rows s) → getD r k 0 ≡ 0)
+  unfolding joined
+  joined-empty = join-empty-is (members rows s) k
 
 -- the joined row of a set that isn't empty is as long as the rows
 pub joined-length : (rows : List (List ℕ)) (n : ℕ) → ((r : List ℕ) → Stands r rows → length r ≡ n) → (s : List Bool) → length s ≡ length rows
     → (k : ℕ) → Holds s k → length (joined rows s) ≡ n
 unfolding joined
 joined-length rows n f s e k h =
-    join-some-length n (members rows s)
-    (λ t g. let i = members-from rows s t g in ap (λ (u : List ℕ). length u) (i .3) ∙ f (getD rows (i .0) []) (stands-get [] rows (i .0) (i .1)))
-    (getD rows k []) (members-at rows s k (rw (← e) (holds-within s k h)) h)
+    join-some-length n (members rows s) (members-even rows n f s) (getD rows k []) (members-at rows s k (rw (← e) (holds-within s k h)) h)

@@ -1,16 +1,17 @@
 -- Laws of the tests, sums and places over lists: what each says of the elements, and what one more element adds to it. Assumes nothing.
 use mathlib.Core.Path.{_≡_, refl, sym, _∙_, ap, ap₂, subst}
 use mathlib.Core.Bool.{Bool, true, false, cond, not, _&&_, _||_, and-true, or-false, and-assoc, or-assoc}
-use mathlib.Core.Logic.{_⊎_, inl, inr, ⊎-elim, _↔_}
+use mathlib.Core.Logic.{inl, inr, ⊎-elim, _↔_}
 use mathlib.Core.List.{List, [], _∷_, _++_, map, append-nil}
 use Prim.Native.Nat.{ℕ, zero, suc, _+_, _*_, _<_, _≤_}
-use native.Mathlib.Nat.{le-of-suc-le-suc, not-suc-le-zero, eq-or-lt-of-le, suc-mul, zero-mul}
+use native.Mathlib.Nat.{le-of-suc-le-suc, not-suc-le-zero, eq-or-lt-of-le, suc-mul}
 use native.Mathlib.Numerals.{add-one}
 use native.Mathlib.Omega.{arith}
-use lib.ListN.{length, getD, take, drop}
+use lib.ListN.{length, getD, take}
 use lib.Seq.{take-suc}
+use borrow.Author.Tests.{not-true}
 use Rattle.definitions.specs.declared.Order.{Order}
-use Rattle.definitions.specs.declared.Order.the-variants.{Before, Same, After}
+use Rattle.definitions.specs.declared.Order.the-variants.{Before}
 use Rattle.definitions.specs.Lists.{all, any, keep, place, distinct, allBelow, sumBelow}
 use Rattle.definitions.specs.Statements.{Stands, Orders, Above, Rising}
 use Rattle.definitions.proofs.Bools.{bool-cases, clash, not-so, and-l, and-r, and-i, or-cases, or-l, or-r}
@@ -95,6 +96,13 @@ module _ {A : Type 0} (p : A → Bool) where
   pub any-snoc : (x : A) (l : List A) → any p (l ++ (x ∷ [])) ≡ (any p l || p x)
   unfolding any
   any-snoc x l = any-append l (x ∷ []) ∙ ap (λ (b : Bool). any p l || b) (or-false (p x))
+
+  -- one element more
+  pub all-next : (d : A) (l : List A) (k : ℕ) → k < length l → all p (take (k + 1) l) ≡ (all p (take k l) && p (getD l k d))
+  all-next d l k h = ap (all p) (rw add-one (take-suc l k d h)) ∙ all-snoc (getD l k d) (take k l)
+
+  pub any-next : (d : A) (l : List A) (k : ℕ) → k < length l → any p (take (k + 1) l) ≡ (any p (take k l) || p (getD l k d))
+  any-next d l k h = ap (any p) (rw add-one (take-suc l k d h)) ∙ any-snoc (getD l k d) (take k l)
 
 -- ---- the elements that pass
 
@@ -227,6 +235,26 @@ place-rising {A} {compare} laws same is d l k rising h =
     not-before-self laws (getD l j d)
     (subst (λ (x : A). compare (getD l j d) x ≡ Before) (is (getD l k d) (getD l j d) .0 e) (rising-get laws d l j k rising i h))))
 
+-- ---- distinct elements
+
+module _ {A : Type 0} (same : A → A → Bool) (d : A) where
+  pub distinct-true : (l : List A) → distinct same l ≡ true → (i j : ℕ) → i < j → j < length l → same (getD l i d) (getD l j d) ≡ false
+  unfolding distinct
+  distinct-true [] e i j h g = absurd (not-suc-le-zero g)
+  distinct-true (x ∷ l) e i zero h g = absurd (not-suc-le-zero h)
+  distinct-true (x ∷ l) e zero (suc j) h g =
+      any-false (same x) l (not-true (any (same x) l) (and-l (not (any (same x) l)) (distinct same l) e)) (getD l j d) (stands-get d l j (le-of-suc-le-suc g))
+  distinct-true (x ∷ l) e (suc i) (suc j) h g =
+      distinct-true l (and-r (not (any (same x) l)) (distinct same l) e) i j (le-of-suc-le-suc h) (le-of-suc-le-suc g)
+
+  pub distinct-of : (l : List A) → ((i j : ℕ) → i < j → j < length l → same (getD l i d) (getD l j d) ≡ false) → distinct same l ≡ true
+  unfolding distinct
+  distinct-of [] f = refl
+  distinct-of (x ∷ l) f =
+      and-i
+      (ap not (any-none (same x) l (λ y h. let i = stands-at d y l h in ap (same x) (sym (i .2)) ∙ f 0 (suc (i .0)) (omega arith) (omega (arith, i .1)))))
+      (distinct-of l (λ i j h g. f (suc i) (suc j) (omega arith) (omega arith)))
+
 -- ---- numbers below a bound
 
 -- a < suc b: below, or the same
@@ -252,6 +280,15 @@ module _ (p : ℕ → Bool) where
       bool-cases (allBelow n p)
       (λ q. (n, omega arith, sym (ap (λ (b : Bool). b && p n) q) ∙ e))
       (λ q. let i = below-false n q in (i .0, omega (arith, i .1), i .2))
+
+-- one number more
+pub below-next : (n : ℕ) (p : ℕ → Bool) → allBelow (n + 1) p ≡ (allBelow n p && p n)
+unfolding allBelow
+below-next n p = ap (λ (k : ℕ). allBelow k p) (add-one n)
+
+pub sum-next : (n : ℕ) (f : ℕ → ℕ) → sumBelow (n + 1) f ≡ sumBelow n f + f n
+unfolding sumBelow
+sum-next n f = ap (λ (k : ℕ). sumBelow k f) (add-one n)
 
 pub below-ext : (n : ℕ) (p q : ℕ → Bool) → ((k : ℕ) → k < n → p k ≡ q k) → allBelow n p ≡ allBelow n q
 unfolding allBelow

@@ -1,19 +1,19 @@
 -- The minimum union in words: the rows of T that no row of T subsumes; and every row of T is equal to or subsumed by one of them.
 -- Assumes nothing.
-use mathlib.Core.Path.{_≡_, refl, sym, _∙_, ap, subst}
+use mathlib.Core.Path.{_≡_, refl, ap}
 use mathlib.Core.Bool.{Bool, true, false, not}
 use mathlib.Core.Logic.{_⊎_, inl, inr, ⊎-elim, _↔_}
 use mathlib.Core.List.{List, [], _∷_}
-use Prim.Native.Nat.{ℕ, zero, suc, _+_, _<_, _≤_}
+use Prim.Native.Nat.{ℕ, zero, suc, _+_, _≤_}
 use native.Mathlib.Omega.{arith}
 use borrow.Author.Tests.{not-true}
-use Rattle.definitions.specs.Lists.{any, keep}
+use Rattle.definitions.specs.Lists.{any}
 use Rattle.definitions.specs.OuterUnion.{compareRow}
 use Rattle.definitions.specs.MinimumUnion.{filled, subsumes, minimumRows}
 use Rattle.definitions.specs.Statements.{Stands, Rising}
 use Rattle.definitions.proofs.Bools.{bool-cases, not-so}
 use Rattle.definitions.proofs.Lists.{stands-keep, keep-stands, rising-keep, any-true, any-false, any-none}
-use Rattle.definitions.proofs.Rows.{subsumes-is, subsumes-trans}
+use Rattle.definitions.proofs.Subsumption.{subsumes-is, subsumes-trans}
 
 module _ (rows : List (List ℕ)) where
   abbrev stays : List ℕ → Bool

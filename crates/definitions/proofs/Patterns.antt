@@ -2,7 +2,7 @@
 -- Assumes nothing.
 use mathlib.Core.Path.{_≡_, refl, sym, _∙_, ap, subst}
 use mathlib.Core.Bool.{Bool, true, false, not, _&&_, _||_}
-use mathlib.Core.Logic.{_⊎_, inl, inr, ⊎-elim, _↔_}
+use mathlib.Core.Logic.{inl, inr, ⊎-elim, _↔_}
 use mathlib.Core.List.{List, [], _∷_}
 use Prim.Native.Nat.{ℕ, zero, suc}
 use lib.ListN.{length, getD}
@@ -11,7 +11,9 @@ use Rattle.definitions.specs.Word.{isFilled}
 use Rattle.definitions.specs.MinimumUnion.{covers, subsumes}
 use Rattle.definitions.specs.ComplementUnion.{agree, share, complement}
 use Rattle.definitions.proofs.Bools.{bool-cases, bool-eq, clash, not-so, and-l, and-r, and-i, or-cases, or-l, or-r}
-use Rattle.definitions.proofs.Rows.{Filled, filled-cell, empty-cell, cell-filled, cell-empty, covers-at, covers-of, agree-at, agree-of, share-at, share-is, covers-self, covers-cases, subsumes-is, Complements, complement-is, complements-sym}
+use Rattle.definitions.proofs.Rows.{Filled, filled-cell, empty-cell, cell-filled, cell-empty, covers-at, covers-of, agree-at, agree-of, share-at, share-is}
+use Rattle.definitions.proofs.Subsumption.{covers-self, covers-cases, subsumes-is}
+use Rattle.definitions.proofs.Complementing.{Complements, complement-is, complements-sym}
 
 -- some column is filled in s and empty in t
 unfoldable pub only : List ℕ → List ℕ → Bool

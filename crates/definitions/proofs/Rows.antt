@@ -1,18 +1,16 @@
--- What covering, agreeing, sharing, subsuming and complementing say column by column; subsumption is a strict order, and complementing is
--- symmetric and apart from equality and subsumption. Assumes nothing.
-use mathlib.Core.Path.{_≡_, refl, sym, _∙_, ap, ap₂, subst}
-use mathlib.Core.Bool.{Bool, true, false, cond, not, _&&_, _||_}
+-- What covering, agreeing, sharing and equality of rows say column by column. Assumes nothing.
+use mathlib.Core.Path.{_≡_, refl, sym, ap, ap₂, subst}
+use mathlib.Core.Bool.{true, false, not, _&&_, _||_}
 use mathlib.Core.Logic.{_⊎_, inl, inr, ⊎-elim, _↔_}
 use mathlib.Core.List.{List, [], _∷_}
-use Prim.Native.Nat.{ℕ, zero, suc, _+_, _<_, _≤_}
-use native.Mathlib.Omega.{arith}
-use lib.Dec.{eqb, ltb}
-use lib.ListN.{length, getD}
-use borrow.Author.Tests.{eqb-true, eqb-false, eq-eqb, ne-eqb, ltb-true, ltb-false, lt-ltb, le-ltb, not-true}
+use Prim.Native.Nat.{ℕ, zero, suc}
+use lib.Dec.{eqb}
+use lib.ListN.{getD}
+use borrow.Author.Tests.{eqb-true, eqb-false, eq-eqb, ne-eqb, not-true}
 use Rattle.definitions.specs.Word.{isFilled}
-use Rattle.definitions.specs.MinimumUnion.{filled, covers, subsumes}
-use Rattle.definitions.specs.ComplementUnion.{sameRow, agree, share, complement}
-use Rattle.definitions.proofs.Bools.{bool-cases, bool-eq, clash, not-so, and-l, and-r, and-i, or-cases, or-l, or-r}
+use Rattle.definitions.specs.MinimumUnion.{covers}
+use Rattle.definitions.specs.ComplementUnion.{sameRow, agree, share}
+use Rattle.definitions.proofs.Bools.{bool-cases, clash, and-l, and-r, and-i, or-cases, or-l, or-r}
 
 -- ---- cells
 
@@ -131,157 +129,3 @@ same-self (x ∷ s) = and-i (eq-eqb x x refl) (same-self s)
 
 pub same-is : (s t : List ℕ) → (sameRow s t ≡ true) ↔ (s ≡ t)
 same-is s t = (same-at s t, λ e. subst (λ (u : List ℕ). sameRow s u ≡ true) e (same-self s))
-
--- ---- empty cells
-
-unfoldable pub empties : List ℕ → ℕ
-empties [] = 0
-empties (x ∷ s) = cond (isFilled x) 0 1 + empties s
-
-pub filled-empties : (s : List ℕ) → filled s + empties s ≡ length s
-unfolding filled empties
-filled-empties [] = refl
-filled-empties (x ∷ s) =
-    let i = filled-empties s in
-    bool-cases (isFilled x) (λ e. rw e (omega arith)) (λ e. rw e (omega arith))
-
--- of equally long rows, more empty cells are fewer filled ones
-pub more-empty : (s t : List ℕ) → length s ≡ length t → (filled t < filled s) ↔ (empties s < empties t)
-more-empty s t e =
-    let p = filled-empties s in
-    let q = filled-empties t in
-    (λ h. omega arith, λ h. omega arith)
-
--- ---- subsumption
-
-pub subsumes-is : (s t : List ℕ) → (subsumes s t ≡ true) ↔ ((filled t < filled s) × (covers s t ≡ true))
-unfolding subsumes
-subsumes-is s t = (
-  λ e. (ltb-true (filled t) (filled s) (and-l (ltb (filled t) (filled s)) (covers s t) e), and-r (ltb (filled t) (filled s)) (covers s t) e),
-  λ h. and-i (lt-ltb (filled t) (filled s) (h .0)) (h .1),
-)
-
--- "Row s subsumes row t if t has more empty cells than s and every filled cell of t equals that of s."
-pub subsumes-says : (s t : List ℕ) → length s ≡ length t
-    → (subsumes s t ≡ true) ↔ ((empties s < empties t) × ((k : ℕ) → CellCovers (getD s k 0) (getD t k 0)))
-subsumes-says s t e = (
-  λ h. let i = subsumes-is s t .0 h in (more-empty s t e .0 (i .0), covers-at s t (i .1)),
-  λ h. subsumes-is s t .1 (more-empty s t e .1 (h .0), covers-of s t (h .1)),
-)
-
-pub covers-trans : (s t u : List ℕ) → covers s t ≡ true → covers t u ≡ true → covers s u ≡ true
-covers-trans s t u e f =
-    covers-of s u (λ k. ⊎-elim (λ q. inl q) (λ q. ⊎-elim (λ p. inl (sym q ∙ p)) (λ p. inr (p ∙ q)) (covers-at s t e k)) (covers-at t u f k))
-
-pub covers-self : (s : List ℕ) → covers s s ≡ true
-covers-self s = covers-of s s (λ k. inr refl)
-
-pub subsumes-trans : (s t u : List ℕ) → subsumes s t ≡ true → subsumes t u ≡ true → subsumes s u ≡ true
-subsumes-trans s t u e f =
-    let p = subsumes-is s t .0 e in
-    let q = subsumes-is t u .0 f in
-    subsumes-is s u .1 (omega (arith, p .0, q .0), covers-trans s t u (p .1) (q .1))
-
-pub subsumes-self : (s : List ℕ) → subsumes s s ≡ false
-unfolding subsumes
-subsumes-self s = ap (λ (b : Bool). b && covers s s) (le-ltb (filled s) (filled s) (omega arith))
-
-pub subsumes-apart : (s t : List ℕ) → subsumes s t ≡ true → s ≡ t → ⊥
-subsumes-apart s t h e = clash h (ap (subsumes s) (sym e) ∙ subsumes-self s)
-
--- a row covers only rows with fewer filled cells, and itself
-pub covers-filled : (s t : List ℕ) → covers s t ≡ true → filled t ≤ filled s
-unfolding covers filled
-covers-filled s [] e = omega arith
-covers-filled [] (y ∷ t) e =
-    let i = covers-filled [] t (and-r (not (isFilled y)) (covers [] t) e) in
-    rw (not-true (isFilled y) (and-l (not (isFilled y)) (covers [] t) e)) (omega arith)
-covers-filled (x ∷ s) (y ∷ t) e =
-    let i = covers-filled s t (and-r (not (isFilled y) || eqb x y) (covers s t) e) in
-    ⊎-elim (λ q. rw (not-true (isFilled y) q) (omega arith)) (λ q. rw (eqb-true x y q) (omega arith))
-    (or-cases (not (isFilled y)) (eqb x y) (and-l (not (isFilled y) || eqb x y) (covers s t) e))
-
-pub covers-same : (s t : List ℕ) → length s ≡ length t → covers s t ≡ true → filled t ≡ filled s → s ≡ t
-unfolding covers filled
-covers-same [] [] l e f = refl
-covers-same [] (y ∷ t) l e f = absurd (omega arith)
-covers-same (x ∷ s) [] l e f = absurd (omega arith)
-covers-same (x ∷ s) (y ∷ t) l e f =
-    let c = and-r (not (isFilled y) || eqb x y) (covers s t) e in
-    let i = covers-filled s t c in
-    let rest : filled t ≡ filled s → s ≡ t = covers-same s t (omega arith) c in
-    let both : x ≡ y → filled t ≡ filled s → (x ∷ s) ≡ (y ∷ t) = λ q r. ap₂ (λ (a : ℕ) (u : List ℕ). a ∷ u) q (rest r) in
-    ⊎-elim
-    (λ q.
-    let n = not-true (isFilled y) q in
-    let g : filled t ≡ cond (isFilled x) 1 0 + filled s = sym (rw n (omega arith)) ∙ f in
-    bool-cases (isFilled x)
-    (λ p. absurd (let k = rw p at g in omega arith))
-    (λ p. both (empty-cell x p ∙ sym (empty-cell y n)) (let k = rw p at g in omega arith)))
-    (λ q. let p = eqb-true x y q in both p (let k = rw p at f in omega arith))
-    (or-cases (not (isFilled y)) (eqb x y) (and-l (not (isFilled y) || eqb x y) (covers s t) e))
-
--- of equally long rows, a covered row is equal or subsumed
-pub covers-cases : (s t : List ℕ) → length s ≡ length t → covers s t ≡ true → (s ≡ t) ⊎ (subsumes s t ≡ true)
-covers-cases s t l e =
-    let i = covers-filled s t e in
-    bool-cases (ltb (filled t) (filled s))
-    (λ q. inr (subsumes-is s t .1 (ltb-true (filled t) (filled s) q, e)))
-    (λ q. let h = ltb-false (filled t) (filled s) q in inl (covers-same s t l e (omega arith)))
-
--- ---- complementing
-
--- "Rows s and t complement each other if (1) .. (2) .. (3) .."
-pub record Complements (s t : List ℕ) : Type 0 where
-  pub agreeing : (k : ℕ) → CellAgrees (getD s k 0) (getD t k 0)
-  pub different : s ≡ t → ⊥
-  pub not-subsuming : subsumes s t ≡ false
-  pub not-subsumed : subsumes t s ≡ false
-  pub sharing : Shared s t
-
-pub complement-is : (s t : List ℕ) → (complement s t ≡ true) ↔ Complements s t
-unfolding complement
-complement-is s t =
-    let a = not (sameRow s t) in
-    let b = not (subsumes s t) in
-    let c = not (subsumes t s) in (
-      λ e.
-          let p = and-l (agree s t && (a && b && c)) (share s t) e in
-          let q = and-r (agree s t) (a && b && c) p in
-          let r = and-l (a && b) c q in
-          record {
-            agreeing = agree-at s t (and-l (agree s t) (a && b && c) p);
-            different = λ h. clash (same-is s t .1 h) (not-true (sameRow s t) (and-l a b r));
-            not-subsuming = not-true (subsumes s t) (and-r a b r);
-            not-subsumed = not-true (subsumes t s) (and-r (a && b) c q);
-            sharing = share-at s t (and-r (agree s t && (a && b && c)) (share s t) e);
-          },
-      λ h.
-          let different : sameRow s t ≡ false = not-so (sameRow s t) (λ q. h .different (same-at s t q)) in
-          and-i
-          (and-i (agree-of s t (h .agreeing)) (and-i (and-i (ap not different) (ap not (h .not-subsuming))) (ap not (h .not-subsumed))))
-          (share-of s t (h .sharing .0) (h .sharing .1) (h .sharing .2)),
-    )
-
-agrees-sym : (x y : ℕ) → CellAgrees x y → CellAgrees y x
-agrees-sym x y h = ⊎-elim (λ q. inl (sym q)) (λ r. ⊎-elim (λ q. inr (inr q)) (λ q. inr (inl q)) r) h
-
-pub complements-sym : (s t : List ℕ) → Complements s t → Complements t s
-complements-sym s t h =
-    let i = h .sharing in
-    record {
-      agreeing = λ k. agrees-sym (getD s k 0) (getD t k 0) (h .agreeing k);
-      different = λ e. h .different (sym e);
-      not-subsuming = h .not-subsumed;
-      not-subsumed = h .not-subsuming;
-      sharing = (i .0, (λ e. i .1 (i .2 ∙ e)), sym (i .2));
-    }
-
-pub complement-sym : (s t : List ℕ) → complement s t ≡ complement t s
-complement-sym s t =
-    bool-eq (complement s t) (complement t s)
-    (λ e. complement-is t s .1 (complements-sym s t (complement-is s t .0 e)))
-    (λ e. complement-is s t .1 (complements-sym t s (complement-is t s .0 e)))
-
-pub complement-self : (s : List ℕ) → complement s s ≡ false
-complement-self s = not-so (complement s s) (λ e. complement-is s s .0 e .different refl)

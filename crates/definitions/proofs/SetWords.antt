@@ -1,13 +1,13 @@
 -- The words of the set list: the record of each set stands in its place, its three words mark its positions bit by bit, and its row word
 -- gives the place of its joined row. Assumes nothing.
-use mathlib.Core.Path.{_≡_, refl, sym, _∙_, ap, ap₂, subst}
+use mathlib.Core.Path.{_≡_, refl, sym, _∙_, ap}
 use mathlib.Core.Bool.{Bool, true, false, cond}
-use mathlib.Core.Logic.{_⊎_, inl, inr, ⊎-elim, _↔_}
 use mathlib.Core.List.{List, [], _∷_, _++_, map, flatten}
-use Prim.Native.Nat.{ℕ, zero, suc, _+_, _*_, _/_, _%_, _^_, _<_, _≤_}
-use native.Mathlib.Nat.{le-of-suc-le-suc, not-suc-le-zero, add-comm, suc-mul, zero-mul, div-one, div-div-eq-div-mul, pow-succ', zero-div}
+use Prim.Native.Nat.{ℕ, zero, suc, _+_, _*_, _/_, _%_, _^_, _-_, _<_}
+use native.Mathlib.Nat.{le-of-suc-le-suc, not-suc-le-zero, add-comm, suc-mul, zero-mul, div-one, div-div-eq-div-mul, pow-succ', zero-div, mul-assoc, mul-add-div-right}
 use native.Mathlib.Omega.{arith}
-use lib.ListN.{length, getD, take, drop, length-append}
+use lib.ListN.{length, getD, take, drop, List·getD-append}
+use lib.Pow.{pow-pos, pow-add, shr-shr, split}
 use lib.Seq.{take-at, drop-at, drop-drop, getD-at}
 use Rattle.definitions.specs.Limits.{markWords, setWidth}
 use Rattle.definitions.specs.Lists.{place}
@@ -15,9 +15,8 @@ use Rattle.definitions.specs.Word.{wordOf}
 use Rattle.definitions.specs.ComplementUnion.{sameRow, marked, joined, unionSets, fusedRows}
 use Rattle.definitions.specs.SetList.{bits, marksFrom, fusedPlace, setRecord, setList}
 use Rattle.definitions.specs.Statements.{Stands}
-use Rattle.definitions.proofs.Bools.{bool-cases}
 use Rattle.definitions.proofs.Orders.{rows}
-use Rattle.definitions.proofs.Lists.{stands-get, map-stands, place-found, place-at, place-rising}
+use Rattle.definitions.proofs.Lists.{place-found, place-at, place-rising}
 use Rattle.definitions.proofs.Rows.{same-is}
 use Rattle.definitions.proofs.Unions.{fused-rise, fused-are}
 use Rattle.definitions.proofs.Counts.{marks-length, record-length}
@@ -86,3 +85,37 @@ bit-marks (m ∷ s) (suc k) =
     ∙ sym (div-div-eq-div-mul (cond m 1 0 + 2 * bits s) 2 (2 ^ k))
     ∙ ap (λ (x : ℕ). x / 2 ^ k) (bit-high m (bits s)))
     ∙ bit-marks s k
+
+-- a multiple of a higher power of 2 leaves the bit alone
+low-bit : (h y j d w : ℕ) → suc d + j ≡ w → (h * 2 ^ w + y) / 2 ^ j % 2 ≡ y / 2 ^ j % 2
+low-bit h y j d w e =
+    let p : h * 2 ^ w ≡ h * 2 ^ suc d * 2 ^ j = ap (λ (k : ℕ). h * 2 ^ k) (sym e) ∙ ap (λ (x : ℕ). h * x) (pow-add 2 (suc d) j) ∙ sym (mul-assoc h (2 ^ suc d) (2 ^ j)) in
+    ap (λ (x : ℕ). (x + y) / 2 ^ j % 2) p
+    ∙ ap (λ (x : ℕ). x % 2) (mul-add-div-right (pow-pos j) (h * 2 ^ suc d) y)
+    ∙ even (y / 2 ^ j)
+  where
+    even : (z : ℕ) → (h * 2 ^ suc d + z) % 2 ≡ z % 2
+    even z = rw pow-succ' (omega arith)
+
+mark-word : (n set i : ℕ) → i < n → getD (marksFrom n set) i 0 ≡ wordOf 2 (set / 2 ^ (30 * i) % 2 ^ 30)
+unfolding marksFrom
+mark-word zero set i h = absurd (not-suc-le-zero h)
+mark-word (suc n) set zero h = ap (λ (x : ℕ). wordOf 2 (x % 2 ^ 30)) (sym (div-one set))
+mark-word (suc n) set (suc i) h =
+    let e : 30 + 30 * i ≡ 30 * suc i = omega arith in
+    mark-word n (set / 2 ^ 30) i (le-of-suc-le-suc h)
+    ∙ ap (λ (x : ℕ). wordOf 2 (x % 2 ^ 30)) (shr-shr set 30 (30 * i) ∙ ap (λ (k : ℕ). set / 2 ^ k) e)
+
+-- "three of kind 2 whose low 30 bits mark positions 0–29, 30–59 and 60–63 (lowest bit first ..)"
+pub mark-bit : (t : List (List ℕ)) (s : List Bool) (i j : ℕ) → i < markWords → j < 30 → getD (setRecord t s) i 0 / 2 ^ j % 2 ≡ cond (marked s (30 * i + j)) 1 0
+unfolding setRecord
+mark-bit t s i j h g =
+    let x = bits s / 2 ^ (30 * i) in
+    let e : suc (29 - j) + j ≡ 30 = omega arith in
+    ap (λ (w : ℕ). w / 2 ^ j % 2)
+    (List·getD-append (marksFrom markWords (bits s)) (wordOf 1 (fusedPlace t s) ∷ []) 0 i (rw (marks-length markWords (bits s)) h) ∙ mark-word markWords (bits s) i h)
+    ∙ low-bit 2 (x % 2 ^ 30) j (29 - j) 30 e
+    ∙ sym (low-bit (x / 2 ^ 30) (x % 2 ^ 30) j (29 - j) 30 e)
+    ∙ ap (λ (y : ℕ). y / 2 ^ j % 2) (split x 30)
+    ∙ ap (λ (y : ℕ). y % 2) (shr-shr (bits s) (30 * i) j)
+    ∙ bit-marks s (30 * i + j)

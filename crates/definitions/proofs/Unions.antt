@@ -1,11 +1,11 @@
 -- The columns of the union, T and the fused table in words: strictly ascending, with exactly the ids, widened rows or joined rows that
 -- they are made of, and determined by that; and how long their rows are. Assumes nothing.
-use mathlib.Core.Path.{_≡_, refl, sym, _∙_, ap, subst}
-use mathlib.Core.Bool.{Bool, true, false}
+use mathlib.Core.Path.{_≡_, sym, _∙_, ap, subst}
+use mathlib.Core.Bool.{Bool}
 use mathlib.Core.Logic.{_⊎_, inl, inr, ⊎-elim, _↔_}
-use mathlib.Core.List.{List, [], _∷_, _++_, map}
-use Prim.Native.Nat.{ℕ, zero, suc, _+_, _*_, _<_, _≤_}
-use lib.ListN.{length, getD, length-map}
+use mathlib.Core.List.{List, _++_, map}
+use Prim.Native.Nat.{ℕ, _+_, _*_}
+use lib.ListN.{length, length-map}
 use Rattle.definitions.specs.declared.Order.{Order}
 use Rattle.definitions.specs.Image.{imageIds, imageRows}
 use Rattle.definitions.specs.Ascending.{ascending}

@@ -1,4 +1,3 @@
 -- Laws of the questions put to one image.
 pub mod Numbers
-pub mod Accepted
 pub mod Parts

@@ -1,2 +1,4 @@
 -- Laws of the table in work.
-pub mod Widen
+pub mod WidenLaws
+pub mod IdLaws
+pub mod UnionLaws

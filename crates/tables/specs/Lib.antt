@@ -1,2 +1,3 @@
--- Words of the contracts on widened rows.
+-- Words of the contracts on the table in work and on widened rows.
 pub mod Places
+pub mod Table

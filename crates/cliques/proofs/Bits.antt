@@ -1,0 +1,257 @@
+-- The positions of sets that are numbers: of an intersection, of a set with one more, of a list of marks; the lowest. Two numbers with
+-- the same positions are equal. Assumes nothing.
+use mathlib.Core.Path.{_≡_, refl, sym, ap, _∙_}
+use mathlib.Core.Bool.{Bool, true, false, cond, not, _&&_, _||_, Bool·beq}
+use mathlib.Core.List.{List, [], _∷_}
+use Prim.Native.Nat.{ℕ, zero, suc, _+_, _*_, _/_, _%_, _^_, _<_}
+use native.Mathlib.Nat.{mod-lt, zero-lt-suc, not-suc-le-zero, le-of-suc-le-suc, div-one, div-div-eq-div-mul, pow-succ', zero-div, div-eq-of-lt, lt-of-lt-of-le}
+use native.Mathlib.Omega.{arith}
+use lib.Arith.{bin-ind}
+use lib.Bits.{bitAnd, bitOr, bitXor, and-shr, or-shr, xor-shr, and-mod, or-mod, xor-mod}
+use lib.Count.{trailingZeros, under}
+use lib.Pow.{pow-mono}
+use lib.Dec.{eqb, ltb, eqb·suc-suc, eqb·zero-suc, eqb·suc-zero}
+use borrow.Author.Tests.{eqb-true, eqb-false, eq-eqb, ne-eqb, ltb-true, ltb-false}
+use Rattle.definitions.specs.ComplementUnion.{marked}
+use Rattle.definitions.specs.SetList.{bits}
+use Rattle.definitions.proofs.Bools.{bool-cases, bool-eq, clash, and-l, and-r, and-i, or-r}
+use Rattle.cliques.specs.Bits.{has, both, isSub, withRow, onlyOne, lowest}
+
+-- position k is in the set
+abbrev pub In : ℕ → ℕ → Type 0
+In set k = has set k ≡ true
+
+-- ---- digit by digit
+
+bit-and : (u v : ℕ) → u < 2 → v < 2 → eqb (bitAnd u v) 1 ≡ (eqb u 1 && eqb v 1)
+bit-and zero zero p q = refl
+bit-and zero (suc zero) p q = refl
+bit-and (suc zero) zero p q = refl
+bit-and (suc zero) (suc zero) p q = refl
+bit-and zero (suc (suc v)) p q = absurd (omega arith)
+bit-and (suc zero) (suc (suc v)) p q = absurd (omega arith)
+bit-and (suc (suc u)) v p q = absurd (omega arith)
+
+bit-or : (u v : ℕ) → u < 2 → v < 2 → eqb (bitOr u v) 1 ≡ (eqb u 1 || eqb v 1)
+bit-or zero zero p q = refl
+bit-or zero (suc zero) p q = refl
+bit-or (suc zero) zero p q = refl
+bit-or (suc zero) (suc zero) p q = refl
+bit-or zero (suc (suc v)) p q = absurd (omega arith)
+bit-or (suc zero) (suc (suc v)) p q = absurd (omega arith)
+bit-or (suc (suc u)) v p q = absurd (omega arith)
+
+bit-xor : (u v : ℕ) → u < 2 → v < 2 → eqb (bitXor u v) 1 ≡ not (Bool·beq (eqb u 1) (eqb v 1))
+bit-xor zero zero p q = refl
+bit-xor zero (suc zero) p q = refl
+bit-xor (suc zero) zero p q = refl
+bit-xor (suc zero) (suc zero) p q = refl
+bit-xor zero (suc (suc v)) p q = absurd (omega arith)
+bit-xor (suc zero) (suc (suc v)) p q = absurd (omega arith)
+bit-xor (suc (suc u)) v p q = absurd (omega arith)
+
+beq-same : (x y : Bool) → not (Bool·beq x y) ≡ false → x ≡ y
+beq-same true true e = refl
+beq-same true false e = absurd (clash refl e)
+beq-same false true e = absurd (clash refl e)
+beq-same false false e = refl
+
+beq-other : (x y : Bool) → not (Bool·beq x y) ≡ true → y ≡ not x
+beq-other true true e = absurd (clash e refl)
+beq-other true false e = refl
+beq-other false true e = refl
+beq-other false false e = absurd (clash e refl)
+
+digit : (w k : ℕ) → w / 2 ^ k % 2 < 2
+digit w k = mod-lt _ (zero-lt-suc 1)
+
+pub has-both : (a b k : ℕ) → has (both a b) k ≡ (has a k && has b k)
+unfolding has both
+has-both a b k =
+    ap (λ (x : ℕ). eqb (x % 2) 1) (and-shr a b k)
+    ∙ ap (λ (x : ℕ). eqb x 1) (and-mod (a / 2 ^ k) (b / 2 ^ k) 1)
+    ∙ bit-and (a / 2 ^ k % 2) (b / 2 ^ k % 2) (digit a k) (digit b k)
+
+has-or : (a b k : ℕ) → has (bitOr a b) k ≡ (has a k || has b k)
+unfolding has
+has-or a b k =
+    ap (λ (x : ℕ). eqb (x % 2) 1) (or-shr a b k)
+    ∙ ap (λ (x : ℕ). eqb x 1) (or-mod (a / 2 ^ k) (b / 2 ^ k) 1)
+    ∙ bit-or (a / 2 ^ k % 2) (b / 2 ^ k % 2) (digit a k) (digit b k)
+
+has-one : (a b k : ℕ) → has (onlyOne a b) k ≡ not (Bool·beq (has a k) (has b k))
+unfolding has onlyOne
+has-one a b k =
+    ap (λ (x : ℕ). eqb (x % 2) 1) (xor-shr a b k)
+    ∙ ap (λ (x : ℕ). eqb x 1) (xor-mod (a / 2 ^ k) (b / 2 ^ k) 1)
+    ∙ bit-xor (a / 2 ^ k % 2) (b / 2 ^ k % 2) (digit a k) (digit b k)
+
+-- position by position, from the lowest
+pub has-low : (w : ℕ) → has w 0 ≡ eqb (w % 2) 1
+unfolding has
+has-low w = ap (λ (x : ℕ). eqb (x % 2) 1) (div-one w)
+
+pub has-suc : (w k : ℕ) → has w (suc k) ≡ has (w / 2) k
+unfolding has
+has-suc w k = ap (λ (x : ℕ). eqb (x % 2) 1) (ap (λ (x : ℕ). w / x) (pow-succ' 2 k) ∙ sym (div-div-eq-div-mul w 2 (2 ^ k)))
+
+pub has-none : (k : ℕ) → has 0 k ≡ false
+unfolding has
+has-none k = ap (λ (x : ℕ). eqb (x % 2) 1) (zero-div (2 ^ k))
+
+-- ---- a set with one more
+
+pow-half : (i : ℕ) → 2 ^ suc i / 2 ≡ 2 ^ i
+pow-half i = rw pow-succ' (omega arith)
+
+pow-even : (i : ℕ) → 2 ^ suc i % 2 ≡ 0
+pow-even i = rw pow-succ' (omega arith)
+
+has-pow : (i k : ℕ) → has (2 ^ i) k ≡ eqb k i
+has-pow zero zero = has-low 1
+has-pow zero (suc k) = has-suc 1 k ∙ has-none k ∙ sym (eqb·suc-zero k)
+has-pow (suc i) zero = has-low (2 ^ suc i) ∙ ap (λ (x : ℕ). eqb x 1) (pow-even i) ∙ sym (eqb·zero-suc i)
+has-pow (suc i) (suc k) =
+    has-suc (2 ^ suc i) k ∙ ap (λ (x : ℕ). has x k) (pow-half i) ∙ has-pow i k ∙ sym (eqb·suc-suc k i)
+
+has-with : (c i k : ℕ) → has (withRow c i) k ≡ (has c k || eqb k i)
+unfolding withRow
+has-with c i k = has-or c (2 ^ i) k ∙ ap (λ (b : Bool). has c k || b) (has-pow i k)
+
+pub has-with-self : (c i : ℕ) → In (withRow c i) i
+has-with-self c i = has-with c i i ∙ or-r (has c i) (eqb i i) (eq-eqb i i refl)
+
+pub has-with-old : (c i k : ℕ) → In c k → In (withRow c i) k
+has-with-old c i k h = has-with c i k ∙ ap (λ (b : Bool). b || eqb k i) h
+
+pub has-with-cases : {A : Type 0} (c i k : ℕ) → In (withRow c i) k → (In c k → A) → (k ≡ i → A) → A
+has-with-cases c i k h f g =
+    bool-cases (has c k) f (λ e. g (eqb-true k i (sym (ap (λ (b : Bool). b || eqb k i) e) ∙ sym (has-with c i k) ∙ h)))
+
+-- ---- a number is its positions
+
+none-zero : (b : ℕ) → ((k : ℕ) → has b k ≡ false) → b ≡ 0
+none-zero =
+    bin-ind (λ (n : ℕ). ((k : ℕ) → has n k ≡ false) → n ≡ 0) (λ h. refl)
+    (λ n ih h.
+    let half = ih (λ k. sym (has-suc n k) ∙ h (suc k)) in
+    let low = eqb-false (n % 2) 1 (sym (has-low n) ∙ h 0) in
+    omega arith)
+
+low-eq : (a b : ℕ) → has a 0 ≡ has b 0 → a % 2 ≡ b % 2
+low-eq a b e =
+    bool-cases (has a 0)
+    (λ p. eqb-true _ _ (sym (has-low a) ∙ p) ∙ sym (eqb-true _ _ (sym (has-low b) ∙ sym e ∙ p)))
+    (λ p.
+    let x = eqb-false (a % 2) 1 (sym (has-low a) ∙ p) in
+    let y = eqb-false (b % 2) 1 (sym (has-low b) ∙ sym e ∙ p) in
+    omega arith)
+
+pub has-ext : (a b : ℕ) → ((k : ℕ) → has a k ≡ has b k) → a ≡ b
+has-ext =
+    bin-ind (λ (n : ℕ). (b : ℕ) → ((k : ℕ) → has n k ≡ has b k) → n ≡ b)
+    (λ b h. sym (none-zero b (λ k. sym (h k) ∙ has-none k)))
+    (λ n ih b h.
+    let half = ih (b / 2) (λ k. sym (has-suc n k) ∙ h (suc k) ∙ has-suc b k) in
+    let low = low-eq n b (h 0) in
+    omega arith)
+
+-- two sets that hold each other are the same
+pub same-set : (a b : ℕ) → ((k : ℕ) → In a k → In b k) → ((k : ℕ) → In b k → In a k) → a ≡ b
+same-set a b f g = has-ext a b (λ k. bool-eq (has a k) (has b k) (f k) (g k))
+
+-- ---- intersections and subsets
+
+pub both-in : (a b k : ℕ) → In a k → In b k → In (both a b) k
+both-in a b k p q = has-both a b k ∙ and-i p q
+
+pub both-l : (a b k : ℕ) → In (both a b) k → In a k
+both-l a b k h = and-l (has a k) (has b k) (sym (has-both a b k) ∙ h)
+
+pub both-r : (a b k : ℕ) → In (both a b) k → In b k
+both-r a b k h = and-r (has a k) (has b k) (sym (has-both a b k) ∙ h)
+
+pub sub-same : (a b : ℕ) → isSub a b ≡ true → both a b ≡ a
+unfolding isSub
+sub-same a b e = eqb-true (both a b) a e
+
+pub sub-true : (a b : ℕ) → isSub a b ≡ true → (k : ℕ) → In a k → In b k
+sub-true a b e k h = both-r a b k (ap (λ (x : ℕ). has x k) (sub-same a b e) ∙ h)
+
+pub sub-of : (a b : ℕ) → ((k : ℕ) → In a k → In b k) → isSub a b ≡ true
+unfolding isSub
+sub-of a b f = eq-eqb (both a b) a (same-set (both a b) a (both-l a b) (λ k p. both-in a b k p (f k p)))
+
+-- ---- a list of marks
+
+bit-low : (b : Bool) (x : ℕ) → eqb ((cond b 1 0 + 2 * x) % 2) 1 ≡ b
+bit-low true x = eq-eqb ((1 + 2 * x) % 2) 1 (omega arith)
+bit-low false x = ne-eqb ((0 + 2 * x) % 2) 1 (omega arith)
+
+bit-half : (b : Bool) (x : ℕ) → (cond b 1 0 + 2 * x) / 2 ≡ x
+bit-half true x = omega arith
+bit-half false x = omega arith
+
+pub has-bits : (s : List Bool) (k : ℕ) → has (bits s) k ≡ marked s k
+unfolding bits marked
+has-bits [] k = has-none k
+has-bits (b ∷ bs) zero = has-low (cond b 1 0 + 2 * bits bs) ∙ bit-low b (bits bs)
+has-bits (b ∷ bs) (suc k) = has-suc (cond b 1 0 + 2 * bits bs) k ∙ ap (λ (x : ℕ). has x k) (bit-half b (bits bs)) ∙ has-bits bs k
+
+-- ---- the lowest position
+
+-- position m is in the set, and none below it is
+pub record Lowest (set m : ℕ) : Type 0 where
+  pub there : In set m
+  pub below : (j : ℕ) → j < m → has set j ≡ false
+
+pub lowest-one : (set m n : ℕ) → Lowest set m → Lowest set n → m ≡ n
+lowest-one set m n p q =
+    bool-cases (ltb m n) (λ e. absurd (clash (p .there) (q .below m (ltb-true m n e))))
+    (λ e. bool-cases (ltb n m) (λ f. absurd (clash (q .there) (p .below n (ltb-true n m f))))
+    (λ f. omega (arith, ltb-false m n e, ltb-false n m f)))
+
+lowest-step : (set t d : ℕ) → set % 2 ≡ d → d < 2 → (d ≡ 0 → Lowest (set / 2) t) → Lowest set (under d t)
+lowest-step set t zero e h f = record { there = has-suc set t ∙ f refl .there; below = low }
+  where
+    low : (j : ℕ) → j < suc t → has set j ≡ false
+    low zero k = has-low set ∙ ap (λ (x : ℕ). eqb x 1) e
+    low (suc j) k = has-suc set j ∙ f refl .below j (le-of-suc-le-suc k)
+lowest-step set t (suc zero) e h f = record { there = has-low set ∙ ap (λ (x : ℕ). eqb x 1) e; below = λ j k. absurd (not-suc-le-zero k) }
+lowest-step set t (suc (suc d)) e h f = absurd (omega arith)
+
+-- the count of trailing zeros is the lowest position, at any number of digits that holds the set
+pub trailing-lowest : (digits set : ℕ) → (set ≡ 0 → ⊥) → set < 2 ^ digits → Lowest set (trailingZeros digits set)
+unfolding trailingZeros
+trailing-lowest zero set some h = absurd (some (omega arith))
+trailing-lowest (suc digits) set some h =
+    lowest-step set (trailingZeros digits (set / 2)) (set % 2) refl (mod-lt set (zero-lt-suc 1))
+    (λ e. trailing-lowest digits (set / 2) (λ z. some (omega arith)) (let p = pow-succ' 2 digits in omega arith))
+
+-- a position that is in a set of so many digits
+pub digit-below : (digits set k : ℕ) → set < 2 ^ digits → In set k → k < digits
+unfolding has
+digit-below digits set k h e =
+    bool-cases (ltb k digits) (ltb-true k digits)
+    (λ t.
+    let small : set < 2 ^ k = lt-of-lt-of-le h (pow-mono (ltb-false k digits t)) in
+    absurd (clash e (ap (λ (x : ℕ). eqb (x % 2) 1) (div-eq-of-lt small))))
+
+below-pow : (n : ℕ) → n < 2 ^ n
+below-pow zero = omega arith
+below-pow (suc n) = let p = pow-succ' 2 n in omega (arith, below-pow n)
+
+pub is-lowest : (set : ℕ) → (set ≡ 0 → ⊥) → Lowest set (lowest set)
+unfolding lowest
+is-lowest set some = trailing-lowest set set some (below-pow set)
+
+-- ---- two sets that are not the same
+
+pub only-one-some : (a b : ℕ) → (a ≡ b → ⊥) → onlyOne a b ≡ 0 → ⊥
+only-one-some a b d e = d (has-ext a b (λ k. beq-same (has a k) (has b k) (sym (has-one a b k) ∙ ap (λ (x : ℕ). has x k) e ∙ has-none k)))
+
+pub only-one-in : (a b k : ℕ) → In (onlyOne a b) k → has b k ≡ not (has a k)
+only-one-in a b k h = beq-other (has a k) (has b k) (sym (has-one a b k) ∙ h)
+
+pub only-one-out : (a b k : ℕ) → has (onlyOne a b) k ≡ false → has a k ≡ has b k
+only-one-out a b k h = beq-same (has a k) (has b k) (sym (has-one a b k) ∙ h)

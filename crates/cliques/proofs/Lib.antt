@@ -1,0 +1,11 @@
+-- The theory of the search: sets as numbers, their order, maximal sets of a prefix, all of them found, and in bounded work.
+pub mod Bits
+pub mod Order
+pub mod Sublists
+pub mod Maximal
+pub mod Listed
+pub mod Run
+pub mod Found
+pub mod Place
+pub mod Steps
+pub mod Complete

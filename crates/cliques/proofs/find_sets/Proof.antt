@@ -1,0 +1,28 @@
+-- `find_sets` lists all maximal sets: the search from the empty set, with every row undecided, finds them.
+use native.Mathlib.Omega.{arith}
+use borrow.Author.Needs.{needs}
+use Rattle.cliques.proofs.Complete.{none-found, all-found}
+use Rattle.cliques.proofs.find_sets.Statement.{statement}
+use Rattle.cliques.proofs.find_sets.Tie as tie
+
+returns : tie.Need-returns
+returns c =
+    let s = c .before .before .before .args in
+    none-found (s .neighbours .now) (s .n) (s .list .now) (c .if1 .taken)
+
+search-requires : tie.Need-search-requires
+search-requires c κs = search needs
+
+same-length : tie.Need-same-length
+same-length c = search needs
+
+returns-2 : tie.Need-returns-2
+returns-2 c =
+    let k = c .before .before in
+    let q = k .before .before .before .before .before in
+    let s = q .args in
+    all-found (s .neighbours .now) (s .n) (q .pre .0) (k .search .last .1 .1 .1 .1 .0) (k .search .result) (k .before .before .if1 .left)
+    (omega (arith, q .pre .2, k .search .kept .1 .1 .1 .1 .0, k .search .ensures .0)) (k .search .ensures .1)
+
+pub find-sets-spec : {M : Type 1} → statement M
+find-sets-spec = tie.close (tie.spec returns search-requires same-length returns-2)

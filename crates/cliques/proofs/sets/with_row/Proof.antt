@@ -1,0 +1,19 @@
+-- `with_row` adds a position: the shifted one is the power of two.
+use mathlib.Core.Path.{ap}
+use Prim.Native.Nat.{ℕ}
+use lib.Bits.{bitOr}
+use borrow.Author.Needs.{needs}
+use Rattle.cliques.specs.Bits.{withRow}
+use Rattle.cliques.proofs.Steps.{bit-at}
+use Rattle.cliques.proofs.sets.with_row.Statement.{statement}
+use Rattle.cliques.proofs.sets.with_row.Tie as tie
+
+shl-result : tie.Need-shl-result
+shl-result c = search needs
+
+returns : tie.Need-returns
+unfolding withRow
+returns c = ap (λ (x : ℕ). bitOr (c .args .set) x) (bit-at 64 (c .args .k) (c .pre))
+
+pub with-row-spec : {M : Type 1} → statement M
+with-row-spec = tie.close (tie.spec shl-result returns)

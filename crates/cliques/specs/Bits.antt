@@ -1,0 +1,36 @@
+-- Sets of positions as numbers: bit k says whether position k is in the set. No width stands here: a set in several words is the number that they make.
+use mathlib.Core.Bool.{Bool, cond}
+use Prim.Native.Nat.{ℕ, _/_, _%_, _^_}
+use lib.Bits.{bitAnd, bitOr, bitXor}
+use lib.Count.{trailingZeros}
+use lib.Dec.{eqb}
+use Rattle.definitions.specs.declared.Order.{Order}
+use Rattle.definitions.specs.declared.Order.the-variants.{Before, Same, After}
+
+-- position k is in the set
+unfoldable pub has : ℕ → ℕ → Bool
+has set k = eqb (set / 2 ^ k % 2) 1
+
+-- the positions that are in both
+unfoldable pub both : ℕ → ℕ → ℕ
+both a b = bitAnd a b
+
+-- all of a is in b
+unfoldable pub isSub : ℕ → ℕ → Bool
+isSub a b = eqb (both a b) a
+
+-- the set with position k
+unfoldable pub withRow : ℕ → ℕ → ℕ
+withRow set k = bitOr set (2 ^ k)
+
+-- the positions that are in one of them only
+unfoldable pub onlyOne : ℕ → ℕ → ℕ
+onlyOne a b = bitXor a b
+
+-- the smallest position of a set that is not empty: a number has fewer digits than it counts
+unfoldable pub lowest : ℕ → ℕ
+lowest set = trailingZeros set set
+
+-- set order: "look at the smallest position that only one of them holds: the set with it comes first"
+unfoldable pub compareBits : ℕ → ℕ → Order
+compareBits a b = cond (eqb a b) Same (cond (has a (lowest (onlyOne a b))) Before After)

@@ -1,0 +1,21 @@
+// All maximal complementing sets of a graph of at most 64 rows, in set order, in bounded work. Bit k of neighbours[j] says that the
+// rows j and k complement each other; a set of rows is a word whose bit k says that row k is in it.
+mod listing;
+mod search;
+mod sets;
+
+ghost use Prim.Native.Nat.{suc, _≤_};
+ghost use lib.ListN.{length};
+ghost use Rattle.definitions.specs.Limits.{maxSets, maxUnionRows};
+ghost use Rattle.cliques.specs.Graph.{Graph, AllSets};
+
+// Lists the maximal sets of the first n rows, and gives their number: of more than 1,024 it gives 1,025, and what the list holds is open.
+pub fn find_sets(neighbours: &[u64], n: usize, list: &mut [u64]) -> usize
+    requires { ⌜ Graph (now neighbours) n × (n ≤ maxUnionRows) × (suc maxSets ≤ length (now list)) ⌝ }
+    ensures { λ r. ⌜ AllSets (now (neighbours .entry)) n (now (list .exit)) r ⌝ }
+{
+    if n == 0 {
+        return 0;
+    }
+    search::search(neighbours, 0, n, 0, list, 0)
+}

@@ -1,0 +1,108 @@
+-- The image of a table reads back as that table; the rows of an image that passes the questions have a cell for each of its columns; and
+-- an accepted pair has at most 64 rows in T. Assumes nothing.
+use mathlib.Core.Path.{_≡_, refl, _∙_, ap, ap₂}
+use mathlib.Core.Logic.{inl, inr, ⊎-elim}
+use mathlib.Core.List.{List, [], _∷_, _++_, map, flatten}
+use Prim.Native.Nat.{ℕ, zero, suc, _+_, _*_, _^_, _<_, _≤_}
+use native.Mathlib.Nat.{suc-mul}
+use native.Mathlib.Omega.{arith}
+use lib.ListN.{length, take, drop, length-append, length-drop, length-map}
+use lib.Seq.{length-take-le, take-at, drop-at}
+use Rattle.definitions.specs.Limits.{maxRows, maxUnionRows}
+use Rattle.definitions.specs.Word.{rowsOf, columnsOf, headerWord, idOf, columnWord}
+use Rattle.definitions.specs.Image.{columnCount, rowCount, columnWords, imageIds, cellWords, rowsIn, imageRows, imageOf}
+use Rattle.definitions.specs.OuterUnion.{compareRow, unionIds, widened, widenedRows, unionRows}
+use Rattle.definitions.specs.Statements.{Stands}
+use Rattle.definitions.proofs.Counts.{ascending-length}
+use Rattle.definitions.proofs.Questions.{Passed, passed-is}
+use Rattle.definitions.proofs.Outcomes.{Accepted}
+
+-- ---- the image of a table
+
+header-columns : (r c : ℕ) → c < 2 ^ 5 → columnsOf (headerWord r c) ≡ c
+header-columns r c h = omega arith
+
+header-rows : (r c : ℕ) → r < 2 ^ 12 → c < 2 ^ 5 → rowsOf (headerWord r c) ≡ r
+header-rows r c h g = omega arith
+
+ids-read : (ids : List ℕ) → ((id : ℕ) → Stands id ids → id < 2 ^ 16) → map idOf (map columnWord ids) ≡ ids
+ids-read [] f = refl
+ids-read (x ∷ ids) f =
+    let h = f x (inl refl) in
+    let e : idOf (columnWord x) ≡ x = omega arith in
+    ap₂ (λ (y : ℕ) (l : List ℕ). y ∷ l) e (ids-read ids (λ id g. f id (inr g)))
+
+rows-read : (c : ℕ) (rows : List (List ℕ)) → ((r : List ℕ) → Stands r rows → length r ≡ c) → rowsIn c (length rows) (flatten rows) ≡ rows
+unfolding flatten
+rows-read c [] f = refl
+rows-read c (r ∷ rows) f =
+    let e = f r (inl refl) in
+    ap₂ (λ (s : List ℕ) (l : List (List ℕ)). s ∷ l) (take-at r (flatten rows) c e)
+    (ap (rowsIn c (length rows)) (drop-at r (flatten rows) c e) ∙ rows-read c rows (λ s h. f s (inr h)))
+
+module _ (ids : List ℕ) (rows : List (List ℕ)) (few : length ids < 2 ^ 5) where
+  image-columns : columnCount (imageOf ids rows) ≡ length ids
+  unfolding imageOf
+  image-columns = header-columns (length rows) (length ids) few
+
+  pub image-ids : ((id : ℕ) → Stands id ids → id < 2 ^ 16) → imageIds (imageOf ids rows) ≡ ids
+  unfolding imageOf
+  image-ids f =
+      ap (λ (n : ℕ). map idOf (take n (map columnWord ids ++ flatten rows))) image-columns
+      ∙ ap (map idOf) (take-at (map columnWord ids) (flatten rows) (length ids) (length-map ids columnWord))
+      ∙ ids-read ids f
+
+  pub image-rows : length rows < 2 ^ 12 → ((r : List ℕ) → Stands r rows → length r ≡ length ids) → imageRows (imageOf ids rows) ≡ rows
+  unfolding imageOf
+  image-rows g f =
+      let count : rowCount (imageOf ids rows) ≡ length rows = header-rows (length rows) (length ids) g few in
+      let past : 1 + columnCount (imageOf ids rows) ≡ suc (length ids) = omega (arith, image-columns) in
+      let cells : cellWords (imageOf ids rows) ≡ flatten rows =
+      ap (λ (n : ℕ). drop n (imageOf ids rows)) past ∙ drop-at (map columnWord ids) (flatten rows) (length ids) (length-map ids columnWord) in
+      ap₂ (λ (c n : ℕ). rowsIn c n (cellWords (imageOf ids rows))) image-columns count
+      ∙ ap (rowsIn (length ids) (length rows)) cells
+      ∙ rows-read (length ids) rows f
+
+-- ---- an image that passes
+
+rows-count : (c n : ℕ) (words : List ℕ) → length (rowsIn c n words) ≡ n
+rows-count c zero words = refl
+rows-count c (suc n) words = ap suc (rows-count c n (drop c words))
+
+rows-long : (c n : ℕ) (words : List ℕ) → length words ≡ n * c → (r : List ℕ) → Stands r (rowsIn c n words) → length r ≡ c
+rows-long c zero words e r h = absurd h
+rows-long c (suc n) words e r h =
+    let s = suc-mul n c in
+    ⊎-elim (λ q. ap (λ (l : List ℕ). length l) q ∙ length-take-le c words (omega arith))
+    (λ q. rows-long c n (drop c words) (length-drop c words ∙ omega arith) r q) h
+
+module _ (limit : ℕ) (image : List ℕ) (p : Passed limit image) where
+  pub passed-ids : length (imageIds image) ≡ columnCount image
+  passed-ids =
+      let d = length-drop 1 image in
+      length-map (columnWords image) idOf ∙ length-take-le (columnCount image) (drop 1 image) (omega (arith, p .all-words))
+
+  pub passed-rows : (r : List ℕ) → Stands r (imageRows image) → length r ≡ columnCount image
+  passed-rows r h =
+      rows-long (columnCount image) (rowCount image) (cellWords image)
+      (length-drop (1 + columnCount image) image ∙ omega (arith, p .all-words)) r h
+
+-- ---- an accepted pair
+
+pub widened-count : (union image : List ℕ) → length (widenedRows union image) ≡ rowCount image
+unfolding widenedRows
+widened-count union image =
+    length-map (imageRows image) (widened union (imageIds image)) ∙ rows-count (columnCount image) (rowCount image) (cellWords image)
+
+pub accepted-rows : (a b : List ℕ) → Accepted a b → length (unionRows a b) ≤ maxUnionRows
+unfolding unionRows
+accepted-rows a b c =
+    let l = widenedRows (unionIds a b) a in
+    let m = widenedRows (unionIds a b) b in
+    let i = ascending-length compareRow (l ++ m) in
+    let j = length-append l m in
+    let x = widened-count (unionIds a b) a in
+    let y = widened-count (unionIds a b) b in
+    let p = passed-is maxRows a .0 (c .first) .few-rows in
+    let q = passed-is maxRows b .0 (c .second) .few-rows in
+    omega arith

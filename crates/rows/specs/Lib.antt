@@ -1,0 +1,2 @@
+-- Rows named by their numbers.
+pub mod Numbers

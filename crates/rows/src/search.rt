@@ -1,0 +1,50 @@
+// Where a row stands among rows that are named by numbers in ascending order, by binary search.
+ghost use mathlib.Core.Path.{_≡_};
+ghost use Prim.Native.Nat.{_≤_, _<_};
+ghost use lib.ListN.{length, take};
+ghost use Rattle.definitions.specs.Lists.{place};
+ghost use Rattle.definitions.specs.OuterUnion.{compareRow};
+ghost use Rattle.definitions.specs.ComplementUnion.{sameRow};
+ghost use Rattle.definitions.specs.Statements.{Stands};
+ghost use Rattle.lists.specs.Spot.{spotIn};
+ghost use Rattle.rows.specs.Numbers.{rowsAt, Listed};
+use crate::compare::compare_rows;
+use crate::compare::wide;
+use definitions::Order;
+use lists::Spot;
+
+// Where a row stands, or would stand, among the rows at the first m numbers.
+pub fn find_row(cells: &[u32], order: &[u32], m: usize, row: &[u32]) -> Spot
+    requires { ⌜ (m ≤ length (now order)) × Listed (length (now row)) (now cells) (take m (now order)) ⌝ }
+    ensures { λ r. ⌜ r ≡ spotIn compareRow (now (row .entry)) (rowsAt (length (now (row .entry))) (now (cells .entry)) (take m (now (order .entry)))) ⌝ }
+{
+    let width = row.len();
+    let mut lo = 0;
+    let mut hi = m;
+    while lo < hi {
+        let mid = lo + (hi - lo) / 2;
+        let at = wide(order[mid]) * width;
+        let end = at + width;
+        match compare_rows(row, &cells[at..end]) {
+            Order::Before => {
+                hi = mid;
+            }
+            Order::Same => return Spot::Taken(mid),
+            Order::After => {
+                lo = mid + 1;
+            }
+        }
+    }
+    Spot::Free(lo)
+}
+
+// The position of a row that stands among the rows at the first m numbers.
+pub fn place_of(cells: &[u32], order: &[u32], m: usize, row: &[u32]) -> usize
+    requires { ⌜ (m ≤ length (now order)) × Listed (length (now row)) (now cells) (take m (now order)) × Stands (now row) (rowsAt (length (now row)) (now cells) (take m (now order))) ⌝ }
+    ensures { λ r. ⌜ (r ≡ place (sameRow (now (row .entry))) (rowsAt (length (now (row .entry))) (now (cells .entry)) (take m (now (order .entry))))) × (r < m) ⌝ }
+{
+    match find_row(cells, order, m, row) {
+        Spot::Taken(p) => p,
+        Spot::Free(_) => 0,
+    }
+}
