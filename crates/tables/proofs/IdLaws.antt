@@ -117,6 +117,6 @@ both-copied all x y a b p q k m u v room ex ey =
     let size : (l : List ℕ) (n : ℕ) → length l ≡ n → length (map idOf l) ≡ n = λ l n e. length-map l idOf ∙ e in (
       both-written all x y (map idOf p) (map idOf q) k m (size p k (u .size)) (size q m (v .size)) (omega arith)
           (ex ∙ ap (paste all 0 (map idOf p)) (u .size)) (ey ∙ ap (paste x k (map idOf q)) (v .size))
-      ∙ ap₂ (λ (l r : List ℕ). l ++ r) (u .ids) (v .ids),
+          ∙ ap₂ (λ (l r : List ℕ). l ++ r) (u .ids) (v .ids),
       omega arith,
     )

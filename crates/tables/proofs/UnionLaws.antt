@@ -9,7 +9,7 @@ use lib.Seq.{paste, length-paste, length-take-le}
 use Rattle.definitions.specs.Limits.{maxColumns, maxRows, maxUnionRows}
 use Rattle.definitions.specs.Image.{rowCount, imageIds, imageRows, rowsIn}
 use Rattle.definitions.specs.Ascending.{ascending}
-use Rattle.definitions.specs.OuterUnion.{compareRow, cellIn, widened, widenedRows}
+use Rattle.definitions.specs.OuterUnion.{compareRow, cellIn, widened, widenedRows, unionIds, unionRows}
 use Rattle.definitions.specs.Questions.{imageNumber}
 use Rattle.definitions.specs.Statements.{Stands}
 use Rattle.definitions.proofs.Ascending.{ascending-only}
@@ -20,6 +20,8 @@ use Rattle.definitions.proofs.Questions.{passed-is}
 use Rattle.definitions.proofs.Images.{widened-count}
 use Rattle.lists.proofs.Flat.{Wide, rows-wide, rows-local, rows-append, flat-rows-all, pasted-rows}
 use Rattle.rows.specs.Numbers.{rowAt, rowsAt, Ordered}
+use Rattle.tables.specs.declared.Table.{Table}
+use Rattle.tables.specs.Table.{Holds}
 use Rattle.tables.proofs.IdLaws.{both-written}
 
 widened-wide : (union image : List ℕ) → Wide (length union) (widenedRows union image)
@@ -45,6 +47,23 @@ module _ (union a b cells x y : List ℕ) (n m : ℕ) (oa : imageNumber maxRows 
     (room : maxUnionRows * maxColumns ≤ length cells) (en : n ≡ rowCount a) (em : m ≡ rowCount b) where
   pub rows-few : n + m ≤ maxUnionRows
   rows-few = let p = passed-is maxRows a .0 oa .few-rows in let q = passed-is maxRows b .0 ob .few-rows in omega arith
+
+  fits-all : n * length union + m * length union ≤ maxUnionRows * maxColumns
+  fits-all = let f = few-words (n + m) maxUnionRows (length union) rows-few few in let e = add-mul n m (length union) in omega arith
+
+  pub first-fits : 0 + rowCount a * length union ≤ length cells
+  first-fits = let f = fits-all in let e = ap (λ (k : ℕ). k * length union) en in omega arith
+
+  pub few-first : n * length union ≤ maxUnionRows * maxColumns
+  few-first = let f = fits-all in omega arith
+
+  pub second-fits : x ≡ paste cells 0 (flatten (widenedRows union a)) (rowCount a * length union) → n * length union + rowCount b * length union ≤ length x
+  second-fits ex =
+      let f = fits-all in
+      let e = ap (λ (k : ℕ). k * length union) em in
+      let l : length x ≡ length cells =
+      ap length ex ∙ length-paste cells 0 (flatten (widenedRows union a)) (rowCount a * length union) first-fits (omega (arith, widened-words union a)) in
+      omega arith
 
   -- the widened rows of both images stand one after the other
   pub both-widened : x ≡ paste cells 0 (flatten (widenedRows union a)) (rowCount a * length union)
@@ -78,3 +97,25 @@ cells-ordered w n m wide order cells cur h k o e =
     let even : Wide w rs = λ r s. rows-wide w n wide h r (ascending-only rows r (rowsIn w n wide) s) in
     let count : length rs ≡ m = sym (ap length (o .rows)) ∙ length-map (take m order) (rowAt w wide) ∙ length-take-le m order k in
     pasted-rows w m rs cells cur even count (e ∙ ap (λ (l : List (List ℕ)). paste cells 0 (flatten l) (m * w)) (o .rows))
+
+-- T in the columns of the first n ids
+pub union-ordered : (n r m : ℕ) (ids wide cells : List ℕ) (both : List (List ℕ)) → n ≤ length ids → rowsIn (length (take n ids)) m wide ≡ both
+    → rowsIn n r cells ≡ ascending compareRow (rowsIn n m wide) → rowsIn n r cells ≡ ascending compareRow both
+union-ordered n r m ids wide cells both h e o =
+    o ∙ ap (ascending compareRow) (ap (λ (k : ℕ). rowsIn k m wide) (sym (length-take-le n ids h)) ∙ e)
+
+pub table-holds : (a b ids : List ℕ) (count : ℕ) (t : Table) → take count ids ≡ unionIds a b → count ≡ length (unionIds a b) → count ≤ maxColumns
+    → t .columns ≡ count → take count (t .ids) ≡ take count ids → length (t .ids) ≡ maxColumns → length (t .cells) ≡ maxUnionRows * maxColumns
+    → rowsIn count (t .rows) (t .cells) ≡ ascending compareRow (widenedRows (take count ids) a ++ widenedRows (take count ids) b)
+    → t .rows ≤ maxUnionRows → Holds t (unionIds a b) (unionRows a b)
+unfolding unionRows
+table-holds a b ids count t ei ec few tc ti li lc tr fr = record {
+  columns = tc ∙ ec;
+  ids = ap (λ (k : ℕ). take k (t .ids)) tc ∙ ti ∙ ei;
+  rows-are = ap (λ (k : ℕ). rowsIn k (t .rows) (t .cells)) tc ∙ tr
+      ∙ ap (λ (u : List ℕ). ascending compareRow (widenedRows u a ++ widenedRows u b)) ei;
+  few-columns = omega arith;
+  few-rows = fr;
+  id-words = li;
+  cell-words = lc;
+}

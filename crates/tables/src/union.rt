@@ -51,7 +51,7 @@ pub fn order_cells(wide: &[u32], width: usize, n: usize, cells: &mut [u32]) -> u
 // Writes T, the distinct widened rows of two accepted images, ascending, in the columns of the first n ids; how many rows it has.
 pub fn union_rows(a: &[u32], b: &[u32], ids: &[u32], n: usize, cells: &mut [u32; 1024]) -> usize
     requires { ⌜ (imageNumber maxRows (now a) ≡ 0) × (imageNumber maxRows (now b) ≡ 0) × (n ≤ maxColumns) × (n ≤ length (now ids)) ⌝ }
-    ensures { λ r. ⌜ (rowsIn n r (now (cells .exit)) ≡ ascending compareRow (widenedRows (take n (now (ids .entry))) (now (a .entry)) ++ widenedRows (take n (now (ids .entry))) (now (b .entry)))) × (r ≤ maxUnionRows) ⌝ }
+    ensures { λ r. ⌜ (rowsIn n r (now (cells .exit)) ≡ ascending compareRow (widenedRows (take n (now (ids .entry))) (now (a .entry)) ++ widenedRows (take n (now (ids .entry))) (now (b .entry)))) × (r ≤ maxUnionRows) × (length (now (cells .exit)) ≡ maxUnionRows * maxColumns) ⌝ }
 {
     let mut wide = [0u32; 1024];
     let count = widen_both(a, b, &ids[..n], &mut wide);
