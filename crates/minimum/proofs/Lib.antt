@@ -1,0 +1,5 @@
+-- Laws of the counts of filled cells, of the other rows than one, of the trying of a row, and of the rows that stay.
+pub mod Counting
+pub mod OtherRows
+pub mod Trying
+pub mod Keeping

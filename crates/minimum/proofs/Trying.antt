@@ -1,0 +1,154 @@
+-- The trying of row k of a table: what a column more says of covering, what a row more says of subsuming, and how the trying ends.
+-- Assumes nothing.
+use mathlib.Core.Path.{_≡_, sym, _∙_, ap, ap₂}
+use mathlib.Core.Bool.{Bool, true, false, cond, not, _&&_, _||_}
+use mathlib.Core.Logic.{⊎-elim}
+use mathlib.Core.List.{List, []}
+use Prim.Native.Nat.{ℕ, _+_, _-_, _*_, _<_, _≤_}
+use native.Mathlib.Nat.{eq-or-lt-of-le}
+use native.Mathlib.Numerals.{add-one}
+use native.Mathlib.Omega.{arith}
+use lib.ListN.{length, getD, drop, length-take, length-drop, length-map, List·getD-map}
+use lib.Seq.{getD-take, getD-drop, length-take-le}
+use lib.Dec.{eqb, ltb}
+use borrow.Author.Tests.{lt-ltb, le-ltb, ltb-true, ltb-false}
+use Rattle.definitions.specs.Word.{isFilled}
+use Rattle.definitions.specs.Image.{rowsIn}
+use Rattle.definitions.specs.MinimumUnion.{filled, covers, subsumes}
+use Rattle.definitions.proofs.Bools.{bool-cases, clash, not-so}
+use Rattle.definitions.proofs.Lists.{stands-get, stands-at, any-of, any-none, below-cases}
+use Rattle.definitions.proofs.Subsumption.{subsumes-is, subsumes-self}
+use Rattle.lists.proofs.Flat.{rows-length, rows-at, row-fits}
+use Rattle.lists.proofs.Walks.{next, end}
+use Rattle.minimum.specs.Trying.{Counted, isSubsumed, triesAt}
+use Rattle.minimum.proofs.OtherRows.{Passed, others-all, others-before, others-after}
+
+-- ---- how far the trying of row k has come
+
+-- row j among n rows
+abbrev pub row : ℕ → ℕ → List ℕ → ℕ → List ℕ
+row width n w j = getD (rowsIn width n w) j []
+
+module _ (width n : ℕ) (w : List ℕ) (k : ℕ) where
+  -- row j covers row k exactly if it does so from column c on
+  abbrev pub CoveredTo : ℕ → ℕ → Type 0
+  CoveredTo j c = covers (row width n w j) (row width n w k) ≡ covers (drop c (row width n w j)) (drop c (row width n w k))
+
+  -- no row before j subsumes row k
+  abbrev pub PassedTo : ℕ → Type 0
+  PassedTo j = Passed (row width n w k) (rowsIn width n w) j
+
+  -- the trying ended when so many rows had been looked at, row k itself among them or not
+  pub record Ended (subsumed : Bool) (looked : ℕ) : Type 0 where
+    pub found : subsumed ≡ isSubsumed (rowsIn width n w) k
+    pub pairs : cond (ltb k looked) (looked - 1) looked ≡ triesAt (rowsIn width n w) k
+    pub fewer : cond (ltb k looked) (looked - 1) looked < n
+
+-- ---- covering, from a column on
+
+module _ (s t : List ℕ) (c : ℕ) (inv : covers s t ≡ covers (drop c s) (drop c t)) where
+  covers-next : c < length s → c < length t
+      → covers s t ≡ ((not (isFilled (getD t c 0)) || eqb (getD s c 0) (getD t c 0)) && covers (drop (c + 1) s) (drop (c + 1) t))
+  unfolding covers
+  covers-next hs ht = inv ∙ ap₂ covers (next 0 s c hs) (next 0 t c ht)
+
+  covers-end : length t ≤ c → covers s t ≡ true
+  unfolding covers
+  covers-end h = inv ∙ ap (covers (drop c s)) (end t c h)
+
+three-cases {ℓ} : {X : Type ℓ} (k j : ℕ) → (k < j → X) → (j ≡ k → X) → (j < k → X) → X
+three-cases k j f g h =
+    bool-cases (ltb k j) (λ e. f (ltb-true k j e)) (λ e. ⊎-elim g h (eq-or-lt-of-le (ltb-false k j e)))
+
+-- ---- the turns
+
+module _ {width n : ℕ} {w counts : List ℕ} {k : ℕ} (own : k < n) (counted : Counted width n w counts) where
+  abbrev rows : List (List ℕ)
+  rows = rowsIn width n w
+
+  abbrev at : ℕ → List ℕ
+  at = row width n w
+
+  pub counts-room : n ≤ length counts
+  counts-room =
+      let e = ap length (counted .filled-cells) ∙ length-map rows filled ∙ rows-length width n w in
+      omega (arith, e, length-take n counts)
+
+  count-at : (j : ℕ) → j < n → getD counts j 0 ≡ filled (at j)
+  unfolding filled
+  count-at j h = sym (getD-take n counts j 0 h) ∙ ap (λ (l : List ℕ). getD l j 0) (counted .filled-cells) ∙ List·getD-map filled rows j []
+
+  pub row-end : (j : ℕ) → j < n → j * width + width ≤ length w
+  row-end j h = omega (arith, counted .fits, row-fits width n j h)
+
+  row-long : (j : ℕ) → j < n → length (at j) ≡ width
+  row-long j h =
+      ap length (rows-at width n j w h)
+      ∙ length-take-le width (drop (j * width) w) (omega (arith, row-end j h, length-drop (j * width) w))
+
+  cell-at : (j c : ℕ) → j < n → c < width → getD (at j) c 0 ≡ getD w (j * width + c) 0
+  cell-at j c h g =
+      ap (λ (r : List ℕ). getD r c 0) (rows-at width n j w h) ∙ getD-take width (drop (j * width) w) c 0 g ∙ getD-drop (j * width) w c 0
+
+  -- a column more: r tells of the cells of row j and row k there
+  module _ (j c : ℕ) {r : Bool} (h : j < n) (g : c < width) (inv : CoveredTo width n w k j c)
+      (told : r ≡ (not (isFilled (getD w (k * width + c) 0)) || eqb (getD w (j * width + c) 0) (getD w (k * width + c) 0))) where
+    column : covers (at j) (at k) ≡ (r && covers (drop (c + 1) (at j)) (drop (c + 1) (at k)))
+    column =
+        covers-next (at j) (at k) c inv (omega (arith, row-long j h)) (omega (arith, row-long k own))
+        ∙ ap (λ (b : Bool). b && covers (drop (c + 1) (at j)) (drop (c + 1) (at k)))
+        (ap₂ (λ (x y : ℕ). not (isFilled y) || eqb x y) (cell-at j c h g) (cell-at k c own g) ∙ sym told)
+
+    pub column-covered : r ≡ true → CoveredTo width n w k j (c + 1)
+    column-covered e = column ∙ rw e
+
+    pub column-differs : r ≡ false → covers (at j) (at k) ≡ false
+    column-differs e = column ∙ rw e
+
+  pub columns-covered : (j c : ℕ) → width ≤ c → CoveredTo width n w k j c → covers (at j) (at k) ≡ true
+  columns-covered j c h inv = covers-end (at j) (at k) c inv (omega (arith, row-long k own))
+
+  within : k < length rows
+  within = omega (arith, rows-length width n w)
+
+  -- no row before j subsumes row k
+  module _ (j : ℕ) (p : PassedTo width n w k j) where
+    pass : subsumes (at j) (at k) ≡ false → PassedTo width n w k (j + 1)
+    pass e i h = below-cases i j (rw add-one at h) (p i) (λ q. rw q e)
+
+    pub pass-fewer : j < n → getD counts j 0 ≤ getD counts k 0 → PassedTo width n w k (j + 1)
+    pass-fewer h f =
+        pass (not-so (subsumes (at j) (at k)) (λ e. let g = subsumes-is (at j) (at k) .0 e .0 in omega (arith, count-at j h, count-at k own)))
+
+    pub pass-differs : covers (at j) (at k) ≡ false → PassedTo width n w k (j + 1)
+    pass-differs f = pass (not-so (subsumes (at j) (at k)) (λ e. clash (subsumes-is (at j) (at k) .0 e .1) f))
+
+    module _ {subsumed : Bool} {looked : ℕ} where
+      -- no row is left
+      pub ended-none : n ≤ j → subsumed ≡ false → looked ≡ n → Ended width n w k subsumed looked
+      ended-none h is there =
+          let l = rows-length width n w in
+          let t : ltb k looked ≡ true = lt-ltb k looked (omega arith) in
+          record {
+            found = is ∙ sym (any-none (λ s. subsumes s (at k)) rows (λ s g.
+                let i = stands-at [] s rows g in
+                ap (λ (u : List ℕ). subsumes u (at k)) (sym (i .2)) ∙ p (i .0) (omega (arith, i .1))));
+            pairs = rw t (omega (arith, others-all (at k) rows k within (λ i g. p i (omega arith))));
+            fewer = rw t (omega arith);
+          }
+
+      -- row j subsumes row k
+      pub ended-found : j < n → getD counts k 0 < getD counts j 0 → covers (at j) (at k) ≡ true → subsumed ≡ true → looked ≡ j + 1
+          → Ended width n w k subsumed looked
+      ended-found h more e is there =
+          let l = rows-length width n w in
+          let m : filled (at k) < filled (at j) = rw (count-at j h, count-at k own) at more in
+          let u : subsumes (at j) (at k) ≡ true = subsumes-is (at j) (at k) .1 (m, e) in
+          record {
+            found = is ∙ sym (any-of (λ s. subsumes s (at k)) (at j) rows (stands-get [] rows j (omega arith)) u);
+            pairs = three-cases k j
+                (λ g. rw (lt-ltb k looked (omega arith)) (omega (arith, others-after (at k) rows k within j (omega arith) p u g)))
+                (λ g. absurd (clash u (ap (λ (i : ℕ). subsumes (at i) (at k)) g ∙ subsumes-self (at k))))
+                (λ g. rw (le-ltb k looked (omega arith)) (omega (arith, others-before (at k) rows k within j (omega arith) p u g)));
+            fewer = bool-cases (ltb k looked) (λ q. rw q (omega arith)) (λ q. rw q (let i = ltb-false k looked q in omega arith));
+          }

@@ -1,0 +1,2 @@
+-- The trying of minimum union.
+pub mod Trying

@@ -1,0 +1,4 @@
+-- Laws of the calls.
+pub mod Pairs
+pub mod Results
+pub mod Tables

@@ -1,0 +1,2 @@
+-- Words of the contracts between the calls and their parts.
+pub mod Pair

@@ -1,0 +1,6 @@
+// The three unions of two table images. Each call writes its result into the lent buffers, or refuses and changes nothing.
+mod image;
+mod outer;
+mod questions;
+
+pub use outer::outer_union;
