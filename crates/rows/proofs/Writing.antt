@@ -64,7 +64,7 @@ module _ (d w o : List ℕ) (at c m : ℕ) (fit : Fit c (length w) (take m o)) (
   abbrev pub rowWords : List ℕ
   rowWords = flatten (rowsAt c w (take m o))
 
-  row-words-length : length rowWords ≡ m * c
+  pub row-words-length : length rowWords ≡ m * c
   row-words-length = words-length c w (take m o) fit ∙ ap (λ (n : ℕ). n * c) (length-take-le m o within)
 
   -- a row more

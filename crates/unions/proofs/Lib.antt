@@ -2,3 +2,5 @@
 pub mod Pairs
 pub mod Results
 pub mod Tables
+pub mod Numbered
+pub mod Minimum

@@ -1,6 +1,8 @@
 // The three unions of two table images. Each call writes its result into the lent buffers, or refuses and changes nothing.
 mod image;
+mod minimal;
 mod outer;
 mod questions;
 
+pub use minimal::minimum_union;
 pub use outer::outer_union;
