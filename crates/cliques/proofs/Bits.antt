@@ -50,7 +50,7 @@ bit-xor zero (suc (suc v)) p q = absurd (omega arith)
 bit-xor (suc zero) (suc (suc v)) p q = absurd (omega arith)
 bit-xor (suc (suc u)) v p q = absurd (omega arith)
 
-beq-same : (x y : Bool) → not (Bool·beq x y) ≡ false → x ≡ y
+pub beq-same : (x y : Bool) → not (Bool·beq x y) ≡ false → x ≡ y
 beq-same true true e = refl
 beq-same true false e = absurd (clash refl e)
 beq-same false true e = absurd (clash refl e)

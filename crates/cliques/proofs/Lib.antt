@@ -9,3 +9,5 @@ pub mod Found
 pub mod Place
 pub mod Steps
 pub mod Complete
+pub mod Work
+pub mod Subgraph

@@ -72,9 +72,13 @@ module _ (N : ℕ → ℕ) where
   unfolding taken
   taken-with set i = refl
 
+  pub taken-self : (set i : ℕ) → In (taken N set i) i
+  unfolding taken
+  taken-self set i = has-with-self (both set (N i)) i
+
   -- ---- completion
 
-  complete-keeps : (set i k : ℕ) → In set k → In (complete N set i) k
+  pub complete-keeps : (set i k : ℕ) → In set k → In (complete N set i) k
   unfolding complete
   complete-keeps set zero k h = h
   complete-keeps set (suc i) k h =

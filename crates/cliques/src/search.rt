@@ -89,25 +89,13 @@ pub(crate) fn search(
         return insert(list, count, set);
     }
     if is_sub(set, neighbours[i]) {
-        return search(
-            neighbours,
-            i + 1,
-            undecided - 1,
-            with_row(set, i),
-            list,
-            count,
-        );
+        let next = with_row(set, i);
+        return search(neighbours, i + 1, undecided - 1, next, list, count);
     }
     let found = search(neighbours, i + 1, undecided - 1, set, list, count);
     if may_take(neighbours, set, i) {
-        return search(
-            neighbours,
-            i + 1,
-            undecided - 1,
-            take_row(neighbours, set, i),
-            list,
-            found,
-        );
+        let next = take_row(neighbours, set, i);
+        return search(neighbours, i + 1, undecided - 1, next, list, found);
     }
     found
 }

@@ -3,4 +3,5 @@ pub mod Pairs
 pub mod Results
 pub mod Tables
 pub mod Numbered
-pub mod Minimum
+pub mod MinimumLaws
+pub mod ComplementLaws

@@ -1,2 +1,3 @@
 -- Words of the contracts between the calls and their parts.
 pub mod Pair
+pub mod Fused

@@ -82,14 +82,14 @@ module _ (t : ℕ) where
   is-sub-requires : lts.Need-is-sub-requires (claims t) (at t) search′.Post
   is-sub-requires c κs = search needs
 
+  with-row-requires : lts.Need-with-row-requires (claims t) (at t) search′.Post
+  with-row-requires c κs = search needs
+
   add-search : lts.Need-add-search (claims t) (at t) search′.Post
   add-search c = search needs
 
   sub-search : lts.Need-sub-search (claims t) (at t) search′.Post
   sub-search c = search needs
-
-  with-row-requires : lts.Need-with-row-requires (claims t) (at t) search′.Post
-  with-row-requires c κs = search needs
 
   search-requires : lts.Need-search-requires (claims t) (at t) search′.Post
   search-requires c κs =
@@ -134,14 +134,14 @@ module _ (t : ℕ) where
   may-take-requires : lts.Need-may-take-requires (claims t) (at t) search′.Post
   may-take-requires c κs = search needs
 
+  take-row-requires : lts.Need-take-row-requires (claims t) (at t) search′.Post
+  take-row-requires c κs = search needs
+
   add-search-3 : lts.Need-add-search-3 (claims t) (at t) search′.Post
   add-search-3 c = search needs
 
   sub-search-3 : lts.Need-sub-search-3 (claims t) (at t) search′.Post
   sub-search-3 c = search needs
-
-  take-row-requires : lts.Need-take-row-requires (claims t) (at t) search′.Post
-  take-row-requires c κs = search needs
 
   search-requires-3 : lts.Need-search-requires-3 (claims t) (at t) search′.Post
   search-requires-3 c κs =
@@ -206,9 +206,9 @@ pub +search-spec : {M : Type 1} → statement M
     (mul-is-sub t)
     (shared-slice-read-is-sub t)
     (is-sub-requires t)
+    (with-row-requires t)
     (add-search t)
     (sub-search t)
-    (with-row-requires t)
     (search-requires t)
     (same-length-2 t)
     (returns-3 t)
@@ -216,9 +216,9 @@ pub +search-spec : {M : Type 1} → statement M
     (sub-search-2 t)
     (search-requires-2 t)
     (may-take-requires t)
+    (take-row-requires t)
     (add-search-3 t)
     (sub-search-3 t)
-    (take-row-requires t)
     (search-requires-3 t)
     (same-length-3 t)
     (returns-4 t)

@@ -6,7 +6,7 @@ use lib.ListN.{length}
 use Rattle.definitions.specs.Calls.{minimumImage, minimumOutcome}
 use Rattle.unions.proofs.Pairs.{pair-refused, table-short, table-done, left-alone, written-over}
 use Rattle.unions.proofs.Tables.{cells-fit, ids-small}
-use Rattle.unions.proofs.Minimum.{left-fit, left-cells, minimum-words, minimum-written, minimum-values}
+use Rattle.unions.proofs.MinimumLaws.{left-fit, left-cells, minimum-words, minimum-written, minimum-values}
 use borrow.Author.Needs.{needs}
 use Rattle.unions.proofs.minimal.minimum_union.Statement.{statement}
 use Rattle.unions.proofs.minimal.minimum_union.Tie as tie

@@ -1,0 +1,74 @@
+// The graphs that are searched.
+ghost use Prim.Native.Nat.{_≤_};
+ghost use lib.ListN.{length};
+
+pub enum Shape {
+    // No two rows complement each other.
+    Apart,
+    // Every two rows do.
+    Together,
+    // Rows that follow each other do.
+    Path,
+    // Rows of different triples do.
+    Triples,
+    // Rows of different pairs do.
+    Pairs,
+    // The same of the first 20 rows, and row 20 complements none.
+    PairsAndOne,
+    // Of each of 32 devices the board's row, then of each the plant's. The board's rows complement each other and the plant's rows of
+    // other devices; the plant's rows are told apart by their first column, and each subsumes the board's row of its device.
+    Devices,
+}
+
+// Do two different rows complement each other?
+fn beside(shape: Shape, j: usize, k: usize) -> bool {
+    match shape {
+        Shape::Apart => false,
+        Shape::Together => true,
+        Shape::Path => if j < k { k - j == 1 } else { j - k == 1 },
+        Shape::Triples => j / 3 != k / 3,
+        Shape::Pairs => j / 2 != k / 2,
+        Shape::PairsAndOne => if j < 20 {
+            if k < 20 { j / 2 != k / 2 } else { false }
+        } else {
+            false
+        },
+        Shape::Devices => devices(j, k),
+    }
+}
+
+fn devices(j: usize, k: usize) -> bool {
+    if j < 32 {
+        if k < 32 { true } else { k - 32 != j }
+    } else {
+        if k < 32 { j - 32 != k } else { false }
+    }
+}
+
+// The rows below n that complement row j.
+fn word(shape: Shape, n: usize, j: usize) -> u64
+    requires { ⌜ n ≤ 64 ⌝ }
+{
+    let mut w: u64 = 0;
+    let mut k: usize = 0;
+    while k < n {
+        if k != j {
+            if beside(shape, j, k) {
+                w = w | (1u64 << k);
+            }
+        }
+        k += 1;
+    }
+    w
+}
+
+// Writes the graph of n rows.
+pub fn build(shape: Shape, n: usize, neighbours: &mut [u64])
+    requires { ⌜ (n ≤ length (now neighbours)) × (n ≤ 64) ⌝ }
+{
+    let mut j: usize = 0;
+    while j < n {
+        neighbours[j] = word(shape, n, j);
+        j += 1;
+    }
+}

@@ -1,0 +1,36 @@
+// Sets as lines of positions.
+ghost use Prim.Native.Nat.{_≤_};
+ghost use lib.ListN.{length};
+
+// A position, after a space.
+fn position(k: usize) {
+    io::write_all(1, b" ");
+    io::print_decimal(1, k as u64);
+}
+
+fn end_line() {
+    io::write_all(1, b"\n");
+}
+
+// The positions of a set.
+fn set(w: u64) {
+    let mut k: usize = 0;
+    while k < 64 {
+        if (w >> k) % 2 == 1 {
+            position(k);
+        }
+        k += 1;
+    }
+    end_line();
+}
+
+// The first count sets of a list.
+pub fn sets(list: &[u64], count: usize)
+    requires { ⌜ count ≤ length (now list) ⌝ }
+{
+    let mut k: usize = 0;
+    while k < count {
+        set(list[k]);
+        k += 1;
+    }
+}

@@ -1,0 +1,85 @@
+-- Two rows compared: cell by cell whether they agree, and by their patterns whether they complement each other. Assumes nothing.
+use mathlib.Core.Path.{_≡_, refl, sym, _∙_, ap, ap₂}
+use mathlib.Core.Bool.{Bool, true, false, not, _&&_, _||_}
+use mathlib.Core.List.{List}
+use Prim.Native.Nat.{ℕ, _+_, _<_, _≤_}
+use native.Mathlib.Omega.{arith}
+use lib.Bits.{bitAnd}
+use lib.Dec.{eqb}
+use lib.ListN.{length, getD, drop}
+use borrow.Author.Tests.{eq-eqb, ne-eqb}
+use Rattle.definitions.specs.Word.{isFilled}
+use Rattle.definitions.specs.ComplementUnion.{agree, complement}
+use Rattle.lists.proofs.Walks.{next, end}
+use Rattle.patterns.specs.Pattern.{patternOf}
+use Rattle.patterns.proofs.Columns.{complement-patterns}
+
+-- two cells of a column are equal, or one is empty
+abbrev pub cellsAgree : ℕ → ℕ → Bool
+cellsAgree x y = eqb x y || not (isFilled x) || not (isFilled y)
+
+module _ (x y : ℕ) where
+  pub cells-same : x ≡ y → true ≡ cellsAgree x y
+  cells-same e = sym (rw (eq-eqb x y e))
+
+  pub cells-first : x ≡ 0 → true ≡ cellsAgree x y
+  cells-first e = sym (rw (eq-eqb x 0 e) (or-true (eqb x y)))
+    where
+      or-true : (b : Bool) → (b || true || not (isFilled y)) ≡ true
+      or-true true = refl
+      or-true false = refl
+
+  pub cells-second : (x ≡ y → ⊥) → (x ≡ 0 → ⊥) → eqb y 0 ≡ cellsAgree x y
+  cells-second d f = sym (rw (ne-eqb x y d, ne-eqb x 0 f) (twice (eqb y 0)))
+    where
+      twice : (b : Bool) → not (not b) ≡ b
+      twice true = refl
+      twice false = refl
+
+-- ---- a walk over the columns: i of them are passed
+
+module _ (s t : List ℕ) (i : ℕ) (same : length s ≡ length t) (inv : agree s t ≡ agree (drop i s) (drop i t)) where
+  agree-next : i < length s → agree s t ≡ (cellsAgree (getD s i 0) (getD t i 0) && agree (drop (i + 1) s) (drop (i + 1) t))
+  unfolding agree
+  agree-next h = inv ∙ ap₂ agree (next 0 s i h) (next 0 t i (omega arith))
+
+  pub agree-stop : i < length s → cellsAgree (getD s i 0) (getD t i 0) ≡ false → false ≡ agree s t
+  agree-stop h e = sym (agree-next h ∙ ap (λ (b : Bool). b && agree (drop (i + 1) s) (drop (i + 1) t)) e)
+
+  pub agree-go : i < length s → cellsAgree (getD s i 0) (getD t i 0) ≡ true → agree s t ≡ agree (drop (i + 1) s) (drop (i + 1) t)
+  agree-go h e = agree-next h ∙ ap (λ (b : Bool). b && agree (drop (i + 1) s) (drop (i + 1) t)) e
+
+  pub agree-end : length s ≤ i → true ≡ agree s t
+  unfolding agree
+  agree-end h = sym (inv ∙ ap (λ (u : List ℕ). agree u (drop i t)) (end s i h))
+
+-- ---- rows of the patterns p and q
+
+module _ (s t : List ℕ) (p q : ℕ) (same : length s ≡ length t) (ep : p ≡ patternOf s) (eq : q ≡ patternOf t) where
+  by-patterns : complement s t
+      ≡ (not (eqb (bitAnd p q) p) && (not (eqb (bitAnd p q) q) && (not (eqb (bitAnd p q) 0) && agree s t)))
+  by-patterns = complement-patterns s t same ∙ rw (← ep, ← eq)
+
+  -- no column is filled in both: no shared number
+  pub apart-no : bitAnd p q ≡ 0 → false ≡ complement s t
+  apart-no e = sym (by-patterns ∙ rw (eq-eqb (bitAnd p q) 0 e) (never (not (eqb (bitAnd p q) p)) (not (eqb (bitAnd p q) q))))
+    where
+      never : (a b : Bool) → (a && (b && false)) ≡ false
+      never true true = refl
+      never true false = refl
+      never false b = refl
+
+  -- no column is filled in the first alone
+  pub first-no : bitAnd p q ≡ p → false ≡ complement s t
+  first-no e = sym (by-patterns ∙ rw (eq-eqb (bitAnd p q) p e))
+
+  -- no column is filled in the second alone
+  pub second-no : bitAnd p q ≡ q → false ≡ complement s t
+  second-no e = sym (by-patterns ∙ rw (eq-eqb (bitAnd p q) q e) (never (not (eqb (bitAnd p q) p))))
+    where
+      never : (a : Bool) → (a && false) ≡ false
+      never true = refl
+      never false = refl
+
+  pub agree-left : (bitAnd p q ≡ 0 → ⊥) → (bitAnd p q ≡ p → ⊥) → (bitAnd p q ≡ q → ⊥) → agree s t ≡ complement s t
+  agree-left z f g = sym (by-patterns ∙ rw (ne-eqb (bitAnd p q) 0 z, ne-eqb (bitAnd p q) p f, ne-eqb (bitAnd p q) q g))

@@ -1,0 +1,78 @@
+-- Laws of lists: an element's image, one row more, marks as digits. Assumes nothing.
+use mathlib.Core.Path.{_≡_, refl, sym, _∙_, ap, ap₂}
+use mathlib.Core.Bool.{Bool, true, false, cond}
+use mathlib.Core.List.{List, [], _∷_, _++_, map}
+use Prim.Native.Nat.{ℕ, zero, suc, _+_, _*_, _%_, _^_, _<_, _≤_}
+use native.Mathlib.Nat.{le-of-suc-le-suc, not-suc-le-zero, pow-suc, zero-mul}
+use native.Mathlib.Omega.{arith}
+use lib.Bits.{bitOr, or-shifted-r}
+use lib.ListN.{length, getD, take, drop}
+use lib.Pow.{shl-exact}
+use lib.Seq.{take-suc, take-all, paste, drop-paste, getD-drop}
+use Rattle.definitions.specs.Image.{rowsIn}
+use Rattle.definitions.specs.SetList.{bits}
+use Rattle.lists.proofs.Flat.{rows-length, rows-take, rows-at}
+
+pub map-at : {A B : Type 0} (f : A → B) (d : A) (e : B) (l : List A) (k : ℕ) → k < length l → getD (map f l) k e ≡ f (getD l k d)
+map-at f d e [] k h = absurd (not-suc-le-zero h)
+map-at f d e (x ∷ l) zero h = refl
+map-at f d e (x ∷ l) (suc k) h = map-at f d e l k (le-of-suc-le-suc h)
+
+pub take-map : {A B : Type 0} (f : A → B) (k : ℕ) (l : List A) → take k (map f l) ≡ map f (take k l)
+take-map f zero l = refl
+take-map f (suc k) [] = refl
+take-map {B = B} f (suc k) (x ∷ l) = ap (λ (r : List B). f x ∷ r) (take-map f k l)
+
+-- the rows with the next one
+pub rows-snoc : (c n : ℕ) (w : List ℕ) → rowsIn c (n + 1) w ≡ rowsIn c n w ++ (take c (drop (n * c) w) ∷ [])
+rows-snoc c n w =
+    let r = rowsIn c (n + 1) w in
+    let l : length r ≡ n + 1 = rows-length c (n + 1) w in
+    sym (take-all (suc n) r (omega arith))
+    ∙ take-suc r n [] (omega arith)
+    ∙ ap₂ (λ (t : List (List ℕ)) (u : List ℕ). t ++ (u ∷ [])) (rows-take c n (n + 1) w (omega arith)) (rows-at c (n + 1) n w (omega arith))
+
+-- ---- marks as the digits of a number
+
+pub bit-small : (m : Bool) → cond m 1 0 < 2
+bit-small true = omega arith
+bit-small false = omega arith
+
+pub bits-small : (s : List Bool) → bits s < 2 ^ length s
+unfolding bits
+bits-small [] = omega arith
+bits-small (m ∷ s) = rw (pow-suc 2 (length s)) (omega (arith, bits-small s, bit-small m))
+
+bits-snoc : (s : List Bool) (m : Bool) → bits (s ++ (m ∷ [])) ≡ cond m 1 0 * 2 ^ length s + bits s
+unfolding bits
+bits-snoc [] m = omega arith
+bits-snoc (x ∷ s) m = rw (bits-snoc s m, pow-suc 2 (length s)) (doubled m (2 ^ length s))
+  where
+    doubled : (m : Bool) (p : ℕ) → cond x 1 0 + 2 * (cond m 1 0 * p + bits s) ≡ cond m 1 0 * (p * 2) + (cond x 1 0 + 2 * bits s)
+    doubled true p = omega arith
+    doubled false p = omega arith
+
+-- the mark of the next position, shifted to its place
+pub mark-next : (width : ℕ) (s : List Bool) (m : Bool) (w b k : ℕ) → k < width → length s ≡ k → w ≡ bits s → b ≡ cond m 1 0
+    → bitOr w (b * 2 ^ k % 2 ^ width) ≡ bits (s ++ (m ∷ []))
+mark-next width s m w b k h e ew eb =
+    let small : b < 2 = rw eb (bit-small m) in
+    let at : bits s < 2 ^ k = rw (← e) (bits-small s) in
+    ap₂ bitOr ew (shl-exact 1 k width small (omega arith))
+    ∙ or-shifted-r b k (bits s) at
+    ∙ rw (eb, ← e) (sym (bits-snoc s m))
+
+-- a position that isn't held changes nothing
+pub bits-none : (s : List Bool) → bits (s ++ (false ∷ [])) ≡ bits s
+bits-none s = bits-snoc s false ∙ omega (arith, zero-mul (2 ^ length s))
+
+-- what stands after a list that is written over the front
+pub paste-rest : {A : Type 0} (d s cur : List A) (k : ℕ) (z : A) → k ≤ length s → cur ≡ paste d 0 s k → getD cur k z ≡ getD d k z
+paste-rest {A} d s cur k z h e =
+    let at : 0 + k + 0 ≡ k = omega arith in
+    ap (λ (i : ℕ). getD cur i z) (sym at)
+    ∙ sym (getD-drop (0 + k) cur 0 z)
+    ∙ ap (λ (l : List A). getD (drop (0 + k) l) 0 z) e
+    ∙ ap (λ (l : List A). getD l 0 z) (drop-paste d 0 s k (omega arith) h)
+    ∙ getD-drop (0 + k) d 0 z
+    ∙ ap (λ (i : ℕ). getD d i z) at

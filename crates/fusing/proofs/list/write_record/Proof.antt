@@ -1,0 +1,98 @@
+-- `write_record` meets its contract. The loop's invariant: i mark words are written, and the others mark what is left of the set.
+use borrow.Author.Needs.{needs}
+use mathlib.Core.Path.{_≡_, refl, _∙_}
+use Prim.Native.Nat.{_+_, _-_, _≤_}
+use native.Mathlib.Omega.{arith}
+use lib.ListN.{set, length-set}
+use Rattle.lists.proofs.Pastes.{Pasted, paste-none, paste-turn, paste-all}
+use Rattle.fusing.specs.Records.{recordOf}
+use Rattle.fusing.proofs.Records.{Left, record-length, marks-start, mark-here, marks-left, row-here}
+use Rattle.fusing.proofs.list.write_record.Statement.{statement}
+use Rattle.fusing.proofs.list.write_record.Tie as tie
+
+abbrev Inv-loop : tie.InvT-loop
+Inv-loop buffer₀ at set row rest₀ i₀ buffer rest i = (i ≤ 3) × Pasted buffer₀ at (recordOf set row) i buffer × Left set row i rest
+
+abbrev μ-loop : tie.MeasureT-loop
+μ-loop buffer₀ at set row rest₀ i₀ buffer rest i = 3 - i
+
+loop-holds : tie.Need-loop-holds Inv-loop μ-loop
+loop-holds c = let a = c .before .args in (search needs, paste-none (a .buffer .now) (a .at) (recordOf (a .set) (a .row)), marks-start (a .set) (a .row))
+
+mark-word-requires : tie.Need-mark-word-requires Inv-loop μ-loop
+mark-word-requires c κs = search needs
+
+add-buffer : tie.Need-add-buffer Inv-loop μ-loop
+add-buffer c = omega (arith, c .before .before .before .before .pre .0)
+
+mul-buffer : tie.Need-mul-buffer Inv-loop μ-loop
+mul-buffer c = omega (arith, c .before .before .before .before .pre .0, c .before .before .loop .inv .1 .size)
+
+slice-write-buffer : tie.Need-slice-write-buffer Inv-loop μ-loop
+slice-write-buffer c = omega (arith, c .before .before .before .before .pre .0, c .before .before .loop .inv .1 .size)
+
+add-i : tie.Need-add-i Inv-loop μ-loop
+add-i c = search needs
+
+loop-less : tie.Need-loop-less Inv-loop μ-loop
+loop-less c = search needs
+
+loop-again : tie.Need-loop-again Inv-loop μ-loop
+loop-again c =
+    let s = c .before .before .before .before in
+    let a = s .args in
+    let l = c .before .before .loop in
+    let size = record-length (a .set) (a .row) in (
+      search needs,
+      paste-turn (a .buffer .now) (a .at) (recordOf (a .set) (a .row)) (l .i) (a .at + l .i) (l .buffer) 0 (c .mark-word .result) (l .inv .1) refl (omega arith) (omega arith)
+          (c .mark-word .ensures ∙ mark-here (a .set) (a .row) (l .i) (l .rest) (l .inv .2) (search needs)),
+      marks-left (a .set) (a .row) (l .i) (l .rest) (l .inv .2) (search needs),
+    )
+
+word-of-requires : tie.Need-word-of-requires Inv-loop μ-loop
+word-of-requires c κs = search needs
+
+add-buffer-2 : tie.Need-add-buffer-2 Inv-loop μ-loop
+add-buffer-2 c = omega (arith, c .before .before .before .before .pre .0)
+
+mul-buffer-2 : tie.Need-mul-buffer-2 Inv-loop μ-loop
+mul-buffer-2 c = omega (arith, c .before .before .before .before .pre .0, c .before .before .loop .inv .1 .size)
+
+slice-write-buffer-2 : tie.Need-slice-write-buffer-2 Inv-loop μ-loop
+slice-write-buffer-2 c = omega (arith, c .before .before .before .before .pre .0, c .before .before .loop .inv .1 .size)
+
+same-length : tie.Need-same-length Inv-loop μ-loop
+same-length c = let l = c .before .before .loop in length-set (l .buffer) (c .before .before .before .before .args .at + 3) (c .word-of .result) ∙ l .inv .1 .size
+
+returns : tie.Need-returns Inv-loop μ-loop
+returns c =
+    let s = c .before .before .before .before in
+    let a = s .args in
+    let l = c .before .before .loop in
+    let size = record-length (a .set) (a .row) in
+    let last : l .i ≡ 3 = omega arith in
+    paste-all (a .buffer .now) (a .at) (recordOf (a .set) (a .row)) (l .i + 1) 4 (set (l .buffer) (a .at + 3) (c .word-of .result))
+    (paste-turn (a .buffer .now) (a .at) (recordOf (a .set) (a .row)) (l .i) (a .at + 3) (l .buffer) 0 (c .word-of .result) (l .inv .1) (omega arith) (omega arith) (omega arith)
+    (c .word-of .ensures ∙ row-here (a .set) (a .row) (l .i) (l .rest) (l .inv .2) last))
+    (omega arith)
+
+pub write-record-spec : {M : Type 1} → statement M
+write-record-spec =
+    tie.close
+    (tie.spec
+    Inv-loop
+    μ-loop
+    loop-holds
+    mark-word-requires
+    add-buffer
+    mul-buffer
+    slice-write-buffer
+    add-i
+    loop-less
+    loop-again
+    word-of-requires
+    add-buffer-2
+    mul-buffer-2
+    slice-write-buffer-2
+    same-length
+    returns)

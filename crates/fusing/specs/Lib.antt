@@ -1,0 +1,4 @@
+-- What the parts of complement union compute, between T and the written words.
+pub mod Graph
+pub mod Join
+pub mod Records
