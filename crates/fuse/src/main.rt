@@ -1,0 +1,4 @@
+// The program `fuse` of document 01: it fuses board.tbl and plant.tbl.
+fn main() {
+    fuse_body::run();
+}

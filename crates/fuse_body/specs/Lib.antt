@@ -1,0 +1,2 @@
+-- What the contracts of the program's body cite.
+pub mod Reading

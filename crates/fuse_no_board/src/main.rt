@@ -1,0 +1,4 @@
+// `fuse` on other data: board.tbl is missing.
+fn main() {
+    fuse_body::run();
+}

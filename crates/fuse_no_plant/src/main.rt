@@ -1,0 +1,4 @@
+// `fuse` on other data: plant.tbl is missing.
+fn main() {
+    fuse_body::run();
+}

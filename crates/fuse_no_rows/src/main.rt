@@ -1,0 +1,4 @@
+// `fuse` on other data: two tables without rows.
+fn main() {
+    fuse_body::run();
+}

@@ -1,0 +1,4 @@
+// `fuse` on other data: both files are ragged.
+fn main() {
+    fuse_body::run();
+}
