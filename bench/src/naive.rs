@@ -1,0 +1,346 @@
+//! Brute force straight from the definitions of document 01, with no care for
+//! speed. For T of up to `SUBSET_ROWS` rows the maximal sets are found by
+//! looking at every subset; above that, `Naive` goes through T row by row and
+//! keeps the sets that are maximal among the rows so far.
+
+use crate::{Answer, Call, Unions, MAX_COLUMNS, MAX_SETS, MAX_SOURCE_ROWS};
+use std::collections::{BTreeMap, BTreeSet};
+
+/// Largest T for which every subset is looked at.
+pub const SUBSET_ROWS: usize = 12;
+
+/// A row: a word for each column, 0 for empty.
+type Row = Vec<u32>;
+
+struct Table {
+    ids: Vec<u32>,
+    rows: Vec<Row>,
+}
+
+/// The questions 1 to 7, one after the other.
+fn read(image: &[u32]) -> Result<Table, u32> {
+    if image.is_empty() {
+        return Err(1);
+    }
+    let kind = |word: u32| word / 0x4000_0000;
+    let header = image[0];
+    if kind(header) != 3 || (5..=17).any(|bit| header & (1 << bit) != 0) {
+        return Err(1);
+    }
+    let columns = (header % 32) as usize;
+    let rows = (header / (1 << 18) % (1 << 12)) as usize;
+    if columns == 0 || columns > MAX_COLUMNS {
+        return Err(2);
+    }
+    if rows > MAX_SOURCE_ROWS {
+        return Err(3);
+    }
+    if image.len() != 1 + columns + rows * columns {
+        return Err(4);
+    }
+    let mut ids = Vec::new();
+    for &word in &image[1..=columns] {
+        if kind(word) != 2 || (16..=29).any(|bit| word & (1 << bit) != 0) {
+            return Err(5);
+        }
+        ids.push(word % (1 << 16));
+    }
+    for i in 0..columns {
+        for j in 0..i {
+            if ids[i] == ids[j] {
+                return Err(6);
+            }
+        }
+    }
+    for &word in &image[1 + columns..] {
+        match kind(word) {
+            0 if word == 0 => {}
+            1 => {}
+            _ => return Err(7),
+        }
+    }
+    let mut list = Vec::new();
+    for row in 0..rows {
+        let start = 1 + columns + row * columns;
+        list.push(image[start..start + columns].to_vec());
+    }
+    Ok(Table { ids, rows: list })
+}
+
+/// Union columns and T.
+fn outer(first: &[u32], second: &[u32]) -> Result<Table, Answer> {
+    let first = read(first).map_err(|number| Answer::refused(number, 0))?;
+    let second = read(second).map_err(|number| Answer::refused(number, 1))?;
+    let ids: BTreeSet<u32> = first.ids.iter().chain(&second.ids).copied().collect();
+    if ids.len() > MAX_COLUMNS {
+        return Err(Answer::refused(8, 2));
+    }
+    let mut rows = BTreeSet::new();
+    for table in [&first, &second] {
+        for row in &table.rows {
+            let cells: BTreeMap<u32, u32> =
+                table.ids.iter().copied().zip(row.iter().copied()).collect();
+            let padded: Row = ids
+                .iter()
+                .map(|id| cells.get(id).copied().unwrap_or(0))
+                .collect();
+            rows.insert(padded);
+        }
+    }
+    Ok(Table {
+        ids: ids.into_iter().collect(),
+        rows: rows.into_iter().collect(),
+    })
+}
+
+pub fn empty_cells(row: &[u32]) -> usize {
+    row.iter().filter(|&&word| word == 0).count()
+}
+
+/// Row s subsumes row t.
+pub fn subsumes(s: &[u32], t: &[u32]) -> bool {
+    empty_cells(t) > empty_cells(s) && s.iter().zip(t).all(|(a, b)| *b == 0 || a == b)
+}
+
+/// Rows s and t complement each other.
+pub fn complement(s: &[u32], t: &[u32]) -> bool {
+    let agree = s.iter().zip(t).all(|(a, b)| a == b || *a == 0 || *b == 0);
+    let apart = s != t && !subsumes(s, t) && !subsumes(t, s);
+    let shared = s.iter().zip(t).any(|(a, b)| *a != 0 && a == b);
+    agree && apart && shared
+}
+
+/// For every two different positions: do they complement each other?
+fn relation(rows: &[Row]) -> Vec<Vec<bool>> {
+    let n = rows.len();
+    (0..n)
+        .map(|i| {
+            (0..n)
+                .map(|j| i != j && complement(&rows[i], &rows[j]))
+                .collect()
+        })
+        .collect()
+}
+
+fn holds(set: u64, position: usize) -> bool {
+    set >> position & 1 == 1
+}
+
+fn complementing(set: u64, n: usize, related: &[Vec<bool>]) -> bool {
+    set != 0 && (0..n).all(|i| !holds(set, i) || (0..i).all(|j| !holds(set, j) || related[i][j]))
+}
+
+/// No position below `n` outside the set complements all its members.
+fn maximal(set: u64, n: usize, related: &[Vec<bool>]) -> bool {
+    (0..n).all(|i| holds(set, i) || (0..n).any(|j| holds(set, j) && !related[i][j]))
+}
+
+/// The maximal sets among all subsets.
+fn sets_by_subsets(related: &[Vec<bool>]) -> Vec<u64> {
+    let n = related.len();
+    (1..1u64 << n)
+        .filter(|&set| complementing(set, n, related) && maximal(set, n, related))
+        .collect()
+}
+
+/// The maximal sets, row by row: the sets that are maximal among the rows up
+/// to i are the earlier ones that row i does not extend, and those made of row
+/// i and the members of an earlier set that complement it, if maximal. A part
+/// of T never has more maximal sets than T, so more than 1,024 stay more.
+fn sets_by_rows(related: &[Vec<bool>]) -> Option<Vec<u64>> {
+    let mut sets: BTreeSet<u64> = BTreeSet::new();
+    for i in 0..related.len() {
+        let mut next = BTreeSet::new();
+        if i == 0 {
+            next.insert(1);
+        }
+        for &set in &sets {
+            let near = (0..i)
+                .filter(|&j| holds(set, j) && related[i][j])
+                .fold(0u64, |near, j| near | 1 << j);
+            if near != set {
+                next.insert(set);
+            }
+            let taken = near | 1 << i;
+            if maximal(taken, i + 1, related) {
+                next.insert(taken);
+            }
+        }
+        sets = next;
+        if sets.len() > MAX_SETS {
+            return None;
+        }
+    }
+    Some(sets.into_iter().collect())
+}
+
+/// Set a comes before set b: a holds the smallest position that only one holds.
+fn before(a: u64, b: u64) -> bool {
+    (0..64)
+        .find(|&i| holds(a, i) != holds(b, i))
+        .is_some_and(|i| holds(a, i))
+}
+
+fn join(set: u64, rows: &[Row], columns: usize) -> Row {
+    (0..columns)
+        .map(|column| {
+            rows.iter()
+                .enumerate()
+                .filter(|(i, row)| holds(set, *i) && row[column] != 0)
+                .map(|(_, row)| row[column])
+                .next()
+                .unwrap_or(0)
+        })
+        .collect()
+}
+
+fn image(ids: &[u32], rows: &[Row]) -> Vec<u32> {
+    let mut words = vec![3 * 0x4000_0000 + rows.len() as u32 * (1 << 18) + ids.len() as u32];
+    words.extend(ids.iter().map(|id| 2 * 0x4000_0000 + id));
+    for row in rows {
+        words.extend(row);
+    }
+    words
+}
+
+fn filled(rows: &[Row]) -> u32 {
+    rows.iter()
+        .map(|row| row.len() - empty_cells(row))
+        .sum::<usize>() as u32
+}
+
+fn done(ids: &[u32], rows: &[Row]) -> (Answer, Vec<u32>) {
+    let words = image(ids, rows);
+    let answer = Answer {
+        rows: rows.len() as u32,
+        words: words.len() as u32,
+        filled: filled(rows),
+        ..Answer::default()
+    };
+    (answer, words)
+}
+
+/// The brute force implementation.
+pub struct Naive {
+    /// Largest T for which every subset is looked at.
+    pub subset_rows: usize,
+}
+
+impl Default for Naive {
+    fn default() -> Naive {
+        Naive {
+            subset_rows: SUBSET_ROWS,
+        }
+    }
+}
+
+impl Naive {
+    fn union(
+        &self,
+        call: Call,
+        first: &[u32],
+        second: &[u32],
+        table: &mut [u32],
+        sets: &mut [u32],
+    ) -> Result<Answer, Answer> {
+        let Table { ids, rows } = outer(first, second)?;
+        let (answer, words, list) = match call {
+            Call::Outer => {
+                let (answer, words) = done(&ids, &rows);
+                (answer, words, Vec::new())
+            }
+            Call::Minimum => {
+                let mut kept = Vec::new();
+                let mut pairs = 0;
+                for (i, row) in rows.iter().enumerate() {
+                    let mut subsumed = false;
+                    for (j, other) in rows.iter().enumerate() {
+                        if i == j {
+                            continue;
+                        }
+                        pairs += 1;
+                        if subsumes(other, row) {
+                            subsumed = true;
+                            break;
+                        }
+                    }
+                    if !subsumed {
+                        kept.push(row.clone());
+                    }
+                }
+                let (mut answer, words) = done(&ids, &kept);
+                answer.pairs = pairs;
+                (answer, words, Vec::new())
+            }
+            Call::Complement => {
+                let related = relation(&rows);
+                let mut found = if rows.len() <= self.subset_rows {
+                    sets_by_subsets(&related)
+                } else {
+                    sets_by_rows(&related).ok_or(Answer::refused(9, 2))?
+                };
+                if found.len() > MAX_SETS {
+                    return Err(Answer::refused(9, 2));
+                }
+                found.sort_by(|&a, &b| {
+                    if before(a, b) {
+                        std::cmp::Ordering::Less
+                    } else {
+                        std::cmp::Ordering::Greater
+                    }
+                });
+                let joined: Vec<Row> = found
+                    .iter()
+                    .map(|&set| join(set, &rows, ids.len()))
+                    .collect();
+                let fused: Vec<Row> = joined
+                    .iter()
+                    .cloned()
+                    .collect::<BTreeSet<Row>>()
+                    .into_iter()
+                    .collect();
+                let mut list = vec![3 * 0x4000_0000 + found.len() as u32 * (1 << 18) + 4];
+                for (set, row) in found.iter().zip(&joined) {
+                    for bits in [0..30, 30..60, 60..64] {
+                        let start = bits.start;
+                        let marks: u32 = bits
+                            .filter(|&i| holds(*set, i))
+                            .map(|i| 1 << (i - start))
+                            .sum();
+                        list.push(2 * 0x4000_0000 + marks);
+                    }
+                    let place = fused.iter().position(|other| other == row).unwrap();
+                    list.push(0x4000_0000 + place as u32);
+                }
+                let (mut answer, words) = done(&ids, &fused);
+                answer.sets = found.len() as u32;
+                answer.set_words = list.len() as u32;
+                (answer, words, list)
+            }
+        };
+        if table.len() < words.len() {
+            return Err(Answer::refused(10, 2));
+        }
+        if sets.len() < list.len() {
+            return Err(Answer::refused(11, 2));
+        }
+        table[..words.len()].copy_from_slice(&words);
+        sets[..list.len()].copy_from_slice(&list);
+        Ok(answer)
+    }
+}
+
+impl Unions for Naive {
+    fn run(
+        &mut self,
+        call: Call,
+        first: &[u32],
+        second: &[u32],
+        table: &mut [u32],
+        sets: &mut [u32],
+        answer: &mut [u32],
+    ) -> u32 {
+        let (Ok(given) | Err(given)) = self.union(call, first, second, table, sets);
+        given.give(answer)
+    }
+}

@@ -1,0 +1,125 @@
+/*
+ * Fusion of two dispatch tables: outer union, minimum union and complement
+ * union of two table images.
+ *
+ * An image is a list of 32-bit words:
+ *   header    0xC0000000 | rows << 18 | columns
+ *   columns   0x80000000 | id, one word a column; ids 0 to 65535, distinct
+ *   cells     row by row: 0 for an empty cell, 0x40000000 | number for a filled
+ *             one; numbers 0 to 1073741823
+ * A source table has 1 to 16 columns and 0 to 32 rows. Its image has exactly
+ * 1 + columns + rows * columns words. Results are images too, with at most 16
+ * columns and, for complement union, at most 1024 rows.
+ *
+ * All lengths are counted in words and may have any value. Pointers must not
+ * be null, also where the length is 0, and must be aligned for uint32_t. The
+ * two images are only read and may be the same memory; table, sets and answer
+ * must not overlap each other or an image. The calls keep no state and
+ * allocate nothing.
+ *
+ * Each call returns the refusal number, 0 for done, and writes the answer:
+ *
+ *   word  done                                        refused
+ *   0     0                                           refusal number
+ *   1     0                                           table
+ *   2     rows of the result                          0
+ *   3     words written into table                    0
+ *   4     filled cells of the result                  0
+ *   5     pairs tried (minimum union, otherwise 0)    0
+ *   6     sets (complement union, otherwise 0)        0
+ *   7     words written into sets (complement union,  0
+ *         otherwise 0)
+ *
+ * An answer buffer with fewer than FUSION_ANSWER_WORDS words takes the words
+ * that fit; words past the eighth stay as they are. The refused table is 0 for
+ * the first, 1 for the second and 2 for all numbers from 8.
+ *
+ * A refusal changes no word of table and sets. After a done call, the words of
+ * table and sets past the written ones are as they were.
+ */
+#ifndef FUSION_H
+#define FUSION_H
+
+#include <stddef.h>
+#include <stdint.h>
+
+#ifdef __cplusplus
+extern "C" {
+#endif
+
+/* Words of an answer. */
+#define FUSION_ANSWER_WORDS 8
+
+/* Table words that are enough for every outer and every minimum union. */
+#define FUSION_UNION_WORDS (1 + 16 + 64 * 16)
+
+/* Table words and set words that are enough for every complement union. */
+#define FUSION_FUSED_WORDS (1 + 16 + 1024 * 16)
+#define FUSION_SET_WORDS (1 + 4 * 1024)
+
+/* Refusal numbers. The first question that is answered with no gives its
+ * number. Numbers 1 to 7 are asked of the first table, then of the second. */
+enum fusion_number {
+    FUSION_DONE = 0,
+    FUSION_BAD_HEADER = 1,     /* no first word, or not of header form */
+    FUSION_BAD_COLUMNS = 2,    /* not 1 to 16 columns */
+    FUSION_BAD_ROWS = 3,       /* more than 32 rows */
+    FUSION_BAD_LENGTH = 4,     /* not 1 + columns + rows * columns words */
+    FUSION_BAD_COLUMN = 5,     /* a column word is not of column form */
+    FUSION_SAME_ID = 6,        /* two columns have the same id */
+    FUSION_BAD_CELL = 7,       /* a cell is neither empty nor filled */
+    FUSION_UNION_COLUMNS = 8,  /* the union has more than 16 columns */
+    FUSION_TOO_MANY_SETS = 9,  /* more than 1024 maximal sets */
+    FUSION_TABLE_TOO_SHORT = 10,
+    FUSION_SETS_TOO_SHORT = 11
+};
+
+/*
+ * Outer union. Writes T, the distinct rows of both tables in the union's
+ * columns, ascending, as an image into table.
+ *
+ * Refusals: 1 to 8, 10.
+ */
+uint32_t fusion_outer_union(const uint32_t *first, size_t first_len,
+                            const uint32_t *second, size_t second_len,
+                            uint32_t *table, size_t table_len,
+                            uint32_t *answer, size_t answer_len);
+
+/*
+ * Minimum union. Writes T without the rows that another row of T subsumes,
+ * ascending, as an image into table. The answer's word 5 is the number of
+ * pairs of rows tried.
+ *
+ * Refusals: 1 to 8, 10.
+ */
+uint32_t fusion_minimum_union(const uint32_t *first, size_t first_len,
+                              const uint32_t *second, size_t second_len,
+                              uint32_t *table, size_t table_len,
+                              uint32_t *answer, size_t answer_len);
+
+/*
+ * Complement union. Writes the fused table, the distinct joined rows of the
+ * maximal complementing sets of T, ascending, as an image into table, and the
+ * set list into sets:
+ *   header    0xC0000000 | sets << 18 | 4
+ *   then four words a set:
+ *     0x80000000 | marks of the positions 0 to 29, lowest bit first
+ *     0x80000000 | marks of the positions 30 to 59
+ *     0x80000000 | marks of the positions 60 to 63
+ *     0x40000000 | position of the joined row in the fused table
+ * A position is a row's place in T, from 0. Of two sets the one that holds the
+ * smallest position that only one of them holds comes first.
+ *
+ * Refusals: 1 to 11.
+ */
+uint32_t fusion_complement_union(const uint32_t *first, size_t first_len,
+                                 const uint32_t *second, size_t second_len,
+                                 uint32_t *table, size_t table_len,
+                                 uint32_t *sets, size_t sets_len,
+                                 uint32_t *answer, size_t answer_len);
+
+#ifdef __cplusplus
+}
+#endif
+
+#endif
