@@ -1,3 +1,4 @@
+-- The words passed are cells, so that the test of the rest is the test of all.
 use Rattle.definitions.specs.Word.{isCell}
 use borrow.Author.Needs.{needs}
 use Prim.Native.Nat.{_≤_, _-_}

@@ -1,3 +1,4 @@
+-- The words passed are column words, so that the test of the rest is the test of all.
 use Rattle.definitions.specs.Image.{isColumn}
 use borrow.Author.Needs.{needs}
 use Prim.Native.Nat.{_≤_, _-_}

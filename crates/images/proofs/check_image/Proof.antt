@@ -1,3 +1,4 @@
+-- Each return is a case of the questions 1 to 7: the first no gives its number.
 use mathlib.Core.Path.{_≡_, sym, ap, _∙_}
 use mathlib.Core.Bool.{true, false}
 use mathlib.Core.List.{List, map}

@@ -1,3 +1,4 @@
+-- The words passed have other ids, so that the test of the rest is the test of all.
 use borrow.Author.Needs.{needs}
 use Prim.Native.Nat.{_≤_, _-_}
 use mathlib.Core.Path.{_≡_, refl, sym, _∙_}

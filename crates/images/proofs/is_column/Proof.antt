@@ -1,3 +1,4 @@
+-- The kind and the spare bits are tested one after the other.
 use borrow.Author.Tests.{eq-eqb, ne-eqb}
 use mathlib.Core.Path.{sym, _∙_}
 use borrow.Author.Needs.{needs}
