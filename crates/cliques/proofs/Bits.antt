@@ -2,8 +2,8 @@
 -- the same positions are equal. Assumes nothing.
 use mathlib.Core.Path.{_≡_, refl, sym, ap, _∙_}
 use mathlib.Core.Bool.{Bool, true, false, cond, not, _&&_, _||_, Bool·beq}
-use mathlib.Core.List.{List, [], _∷_}
-use Prim.Native.Nat.{ℕ, zero, suc, _+_, _*_, _/_, _%_, _^_, _<_}
+use mathlib.Core.List.{List}
+use Prim.Native.Nat.{ℕ, zero, suc, _/_, _%_, _^_, _<_}
 use native.Mathlib.Nat.{mod-lt, zero-lt-suc, not-suc-le-zero, le-of-suc-le-suc, div-one, div-div-eq-div-mul, pow-succ', zero-div, div-eq-of-lt, lt-of-lt-of-le}
 use native.Mathlib.Omega.{arith}
 use lib.Arith.{bin-ind}
@@ -11,9 +11,10 @@ use lib.Bits.{bitAnd, bitOr, bitXor, and-shr, or-shr, xor-shr, and-mod, or-mod, 
 use lib.Count.{trailingZeros, under}
 use lib.Pow.{pow-mono}
 use lib.Dec.{eqb, ltb, eqb·suc-suc, eqb·zero-suc, eqb·suc-zero}
-use borrow.Author.Tests.{eqb-true, eqb-false, eq-eqb, ne-eqb, ltb-true, ltb-false}
+use borrow.Author.Tests.{eqb-true, eqb-false, eq-eqb, ltb-true, ltb-false}
 use Rattle.definitions.specs.ComplementUnion.{marked}
 use Rattle.definitions.specs.SetList.{bits}
+use Rattle.definitions.proofs.SetWords.{bit-marks}
 use Rattle.definitions.proofs.Bools.{bool-cases, bool-eq, clash, and-l, and-r, and-i, or-r}
 use Rattle.cliques.specs.Bits.{has, both, isSub, withRow, onlyOne, lowest}
 
@@ -184,19 +185,13 @@ sub-of a b f = eq-eqb (both a b) a (same-set (both a b) a (both-l a b) (λ k p. 
 
 -- ---- a list of marks
 
-bit-low : (b : Bool) (x : ℕ) → eqb ((cond b 1 0 + 2 * x) % 2) 1 ≡ b
-bit-low true x = eq-eqb ((1 + 2 * x) % 2) 1 (omega arith)
-bit-low false x = ne-eqb ((0 + 2 * x) % 2) 1 (omega arith)
-
-bit-half : (b : Bool) (x : ℕ) → (cond b 1 0 + 2 * x) / 2 ≡ x
-bit-half true x = omega arith
-bit-half false x = omega arith
+mark-eqb : (m : Bool) → eqb (cond m 1 0) 1 ≡ m
+mark-eqb true = refl
+mark-eqb false = refl
 
 pub has-bits : (s : List Bool) (k : ℕ) → has (bits s) k ≡ marked s k
-unfolding bits marked
-has-bits [] k = has-none k
-has-bits (b ∷ bs) zero = has-low (cond b 1 0 + 2 * bits bs) ∙ bit-low b (bits bs)
-has-bits (b ∷ bs) (suc k) = has-suc (cond b 1 0 + 2 * bits bs) k ∙ ap (λ (x : ℕ). has x k) (bit-half b (bits bs)) ∙ has-bits bs k
+unfolding has
+has-bits s k = ap (λ (x : ℕ). eqb x 1) (bit-marks s k) ∙ mark-eqb (marked s k)
 
 -- ---- the lowest position
 

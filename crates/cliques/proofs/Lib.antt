@@ -2,6 +2,7 @@
 pub mod Bits
 pub mod Order
 pub mod Sublists
+pub mod Marks
 pub mod Maximal
 pub mod Listed
 pub mod Run

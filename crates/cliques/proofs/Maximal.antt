@@ -8,13 +8,10 @@ use native.Mathlib.Omega.{arith}
 use lib.Dec.{eqb}
 use borrow.Author.Tests.{eqb-true, eqb-false, eq-eqb}
 use Rattle.definitions.proofs.Bools.{bool-cases, clash, not-so, and-l, and-r, and-i}
+use Rattle.definitions.proofs.Lists.{below-cases}
 use Rattle.cliques.specs.Bits.{has, both, isSub, withRow}
 use Rattle.cliques.specs.Search.{complete, isFull, taken, mayTake}
 use Rattle.cliques.proofs.Bits.{In, has-with-self, has-with-old, has-with-cases, same-set, both-in, both-l, both-r, sub-same, sub-true, sub-of}
-
--- a < suc b: below, or the same
-pub below-cases : {A : Type 0} (a b : ℕ) → a < suc b → (a < b → A) → (a ≡ b → A) → A
-below-cases a b h f g = bool-cases (eqb a b) (λ e. g (eqb-true a b e)) (λ e. let d = eqb-false a b e in f (omega arith))
 
 -- every two different rows of the set complement each other
 abbrev pub Clique : (ℕ → ℕ → Bool) → ℕ → Type 0
@@ -78,7 +75,7 @@ module _ (N : ℕ → ℕ) where
 
   -- ---- completion
 
-  pub complete-keeps : (set i k : ℕ) → In set k → In (complete N set i) k
+  complete-keeps : (set i k : ℕ) → In set k → In (complete N set i) k
   unfolding complete
   complete-keeps set zero k h = h
   complete-keeps set (suc i) k h =

@@ -3,25 +3,41 @@ use mathlib.Core.Path.{_≡_, refl, sym, ap, _∙_, subst}
 use mathlib.Core.Bool.{Bool, true, false, not, _&&_}
 use mathlib.Core.List.{List}
 use Prim.Native.Nat.{ℕ, zero, suc, _+_, _-_, _*_, _%_, _^_, _≤_, _<_}
-use native.Mathlib.Nat.{not-suc-le-zero, one-mul, add-zero, add-suc}
+use native.Mathlib.Nat.{sub-zero, not-suc-le-zero, one-mul, add-zero, add-suc}
 use native.Mathlib.Numerals.{add-one}
 use native.Mathlib.Omega.{arith}
 use lib.Pow.{shl-exact}
 use lib.Dec.{eqb, leb, lit<}
 use lib.ListN.{length, take}
 use lib.Seq.{length-take-le}
-use borrow.Author.Tests.{ne-eqb, le-leb, lt-leb}
+use borrow.Author.Tests.{eqb-true, eqb-false, eq-eqb, not-true, ne-eqb, le-leb, lt-leb}
 use Rattle.definitions.specs.Ascending.{insert}
 use Rattle.definitions.specs.Statements.{Rising}
-use Rattle.definitions.proofs.Bools.{clash}
+use Rattle.definitions.proofs.Bools.{bool-cases, clash, and-l, and-r, and-i}
+use Rattle.definitions.proofs.Lists.{below-cases}
 use Rattle.cliques.specs.Bits.{has, both, isSub, withRow, compareBits}
-use Rattle.cliques.specs.Search.{Ready, complete, isFull, taken, mayTake, searchSets}
-use Rattle.cliques.proofs.Bits.{In}
-use Rattle.cliques.proofs.Maximal.{below-cases, complete-more, complete-adds}
+use Rattle.cliques.specs.Search.{Ready, complete, isFull, taken, mayTake, isFar, searchSets}
+use Rattle.cliques.proofs.Bits.{In, has-none, sub-of}
+use Rattle.cliques.proofs.Maximal.{complete-more, complete-adds}
 
 -- a one shifted to a place of a word
 pub bit-at : (width k : ℕ) → k < width → (1 * 2 ^ k) % 2 ^ width ≡ 2 ^ k
 bit-at width k h = shl-exact 1 k width (lit< tt) (omega arith) ∙ one-mul (2 ^ k)
+
+and-no : (b : Bool) → (b && false) ≡ false
+and-no true = refl
+and-no false = refl
+
+-- ready for a row, and so for one past far rows
+pub ready-past : {width cap : ℕ} {neighbours : List ℕ} {i undecided : ℕ} {list : List ℕ} {count : ℕ} → Ready width cap neighbours i undecided list count
+    → (passed : ℕ) → passed ≤ undecided → Ready width cap neighbours (i + passed) (undecided - passed) list count
+ready-past r passed h = record {
+  rows = omega (arith, r .rows);
+  bits = omega (arith, r .bits);
+  room = r .room;
+  few = r .few;
+  order = r .order;
+}
 
 -- ready for a row, and so for the next, with what the list holds by then
 pub ready-next : {width cap : ℕ} {neighbours : List ℕ} {i undecided : ℕ} {list : List ℕ} {count : ℕ} → Ready width cap neighbours i undecided list count
@@ -80,10 +96,6 @@ module _ (N : ℕ → ℕ) where
       below-cases k i h
       (λ lt. ap (λ (x : Bool). x && not (isSub set (N i))) (full-never set k i lt s))
       (λ p. ap (λ (y : Bool). isFull N set i && not y) (ap (λ (x : ℕ). isSub set (N x)) (sym p) ∙ s) ∙ and-no (isFull N set i))
-    where
-      and-no : (b : Bool) → (b && false) ≡ false
-      and-no true = refl
-      and-no false = refl
 
   -- ---- the test for taking row i: `next` is what is taken, `part` what the row leaves of the set
 
@@ -101,6 +113,49 @@ module _ (N : ℕ → ℕ) where
     unfolding mayTake
     may-no t = ap (λ (x : Bool). x && eqb (complete N (both set (N i)) i) set) (sym t ∙ full-is)
 
+  -- ---- far rows
+
+  pub far-of : (set i : ℕ) → (set ≡ 0 → ⊥) → has set 0 ≡ false → both set (N i) ≡ 0 → isFar N set i ≡ true
+  unfolding isFar
+  far-of set i some low none = and-i (and-i (ap not (ne-eqb set 0 some)) (ap not low)) (eq-eqb (both set (N i)) 0 none)
+
+  module _ (set i : ℕ) (far : isFar N set i ≡ true) where
+    some-set : set ≡ 0 → ⊥
+    unfolding isFar
+    some-set =
+        eqb-false set 0 (not-true (eqb set 0) (and-l (not (eqb set 0)) (not (has set 0)) (and-l (not (eqb set 0) && not (has set 0)) (eqb (both set (N i)) 0) far)))
+
+    no-first : has set 0 ≡ false
+    unfolding isFar
+    no-first = not-true (has set 0) (and-r (not (eqb set 0)) (not (has set 0)) (and-l (not (eqb set 0) && not (has set 0)) (eqb (both set (N i)) 0) far))
+
+    none-near : both set (N i) ≡ 0
+    unfolding isFar
+    none-near = eqb-true (both set (N i)) 0 (and-r (not (eqb set 0) && not (has set 0)) (eqb (both set (N i)) 0) far)
+
+    -- the empty set is completed to one with row 0
+    first-in : (k : ℕ) → 0 < k → In (complete N 0 k) 0
+    first-in k h =
+        subst (λ (j : ℕ). In (complete N 0 j) 0) (let z : 1 + (k - 1) ≡ k = omega arith in z)
+        (later 0 0 0 (complete-none 0) (k - 1) (complete-adds N 0 0 (sub-of (complete N 0 0) (N 0) (λ j r. absurd (clash (ap (λ (x : ℕ). has x j) (complete-none 0) ∙ r) (has-none j))))))
+
+    far-leaves : isSub set (N i) ≡ false
+    unfolding isSub
+    far-leaves = ap (λ (x : ℕ). eqb x set) none-near ∙ ne-eqb 0 set (λ e. some-set (sym e))
+
+    no-origin : complete N 0 i ≡ set → ⊥
+    no-origin e =
+        bool-cases (eqb i 0)
+        (λ t. some-set (sym e ∙ ap (complete N 0) (eqb-true i 0 t) ∙ sym (complete-none 0)))
+        (λ t. let d = eqb-false i 0 t in clash (first-in i (omega arith)) (ap (λ (x : ℕ). has x 0) e ∙ no-first))
+
+    far-not-taken : mayTake N set i ≡ false
+    unfolding mayTake
+    far-not-taken =
+        ap (λ (b : Bool). isFull N (taken N set i) i && b)
+        (ne-eqb (complete N (both set (N i)) i) set (λ e. no-origin (ap (λ (x : ℕ). complete N x i) (sym none-near) ∙ e)))
+        ∙ and-no (isFull N (taken N set i) i)
+
   -- ---- the search, return by return: the list is the first `count` words
 
   module _ (cap i set count : ℕ) (words : List ℕ) (fits : count ≤ length words) where
@@ -114,6 +169,21 @@ module _ (N : ℕ → ℕ) where
     unfolding searchSets
     search-stops zero h = rw (le-leb cap (length l) (omega (arith, held)))
     search-stops (suc f) h = rw (le-leb cap (length l) (omega (arith, held)))
+
+    -- far rows are passed
+    pass-one : (f j : ℕ) → count < cap → isFar N set j ≡ true → searchSets N cap (suc f) j set l ≡ searchSets N cap f (suc j) set l
+    unfolding searchSets
+    pass-one f j h far = rw (lt-leb cap (length l) (omega (arith, held)), far-leaves set j far, far-not-taken set j far)
+
+    pub search-passes : (undecided passed : ℕ) → count < cap → passed ≤ undecided → ((k : ℕ) → k < passed → isFar N set (i + k) ≡ true)
+        → searchSets N cap (undecided - passed) (i + passed) set l ≡ searchSets N cap undecided i set l
+    search-passes undecided zero few h far = rw (sub-zero, add-zero)
+    search-passes undecided (suc p) few h far =
+        let one : undecided - p ≡ suc (undecided - suc p) = omega arith in
+        ap (λ (j : ℕ). searchSets N cap (undecided - suc p) j set l) (add-suc i p)
+        ∙ sym (pass-one (undecided - suc p) (i + p) few (far p (omega arith)))
+        ∙ ap (λ (f : ℕ). searchSets N cap f (i + p) set l) (sym one)
+        ∙ search-passes undecided p few (omega arith) (λ k lt. far k (omega arith))
 
     pub search-lists : (undecided : ℕ) → undecided ≡ 0 → count < cap → insert compareBits set l ≡ searchSets N cap undecided i set l
     unfolding searchSets

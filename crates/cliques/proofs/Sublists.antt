@@ -1,8 +1,7 @@
--- Laws of kept and mapped lists, of how long an insertion makes a list, and of two lists of which one has all elements of the other: over any
--- elements and any order of them. Assumes nothing.
+-- Laws of ascending lists: mapped by a function that keeps the order, how long an insertion makes them, and two lists of which one has all
+-- elements of the other; over any elements and any order of them. Assumes nothing.
 use mathlib.Core.Path.{_≡_, refl, sym, ap, _∙_, subst}
 use mathlib.Core.Logic.{inl, inr, ⊎-elim}
-use mathlib.Core.Bool.{Bool, true}
 use mathlib.Core.List.{List, [], _∷_, map}
 use Prim.Native.Nat.{suc, _≤_, zero-le, suc-le-suc}
 use native.Mathlib.Nat.{le-suc, le-refl}
@@ -11,52 +10,11 @@ use lib.ListN.{length}
 use Rattle.definitions.specs.declared.Order.{Order}
 use Rattle.definitions.specs.declared.Order.the-variants.{Before, Same, After}
 use Rattle.definitions.specs.Ascending.{put, insert}
-use Rattle.definitions.specs.Lists.{keep}
 use Rattle.definitions.specs.Statements.{Stands, Orders, Rising}
-use Rattle.definitions.proofs.Bools.{bool-cases, clash}
+use Rattle.definitions.proofs.Lists.{map-stands}
 use Rattle.definitions.proofs.Ascending.{not-before-self, above-at, above-all}
 
--- ---- kept elements
-
-module _ {A : Type 0} (p : A → Bool) where
-  pub keep-stands : (l : List A) (x : A) → Stands x l → p x ≡ true → Stands x (keep p l)
-  unfolding keep
-  keep-stands [] x h e = h
-  keep-stands (y ∷ l) x h e =
-      bool-cases (p y)
-      (λ t. rw t (⊎-elim (λ q. inl q) (λ r. inr (keep-stands l x r e)) h))
-      (λ t. rw t (⊎-elim (λ q. absurd (clash (sym (ap p q) ∙ e) t)) (λ r. keep-stands l x r e) h))
-
-  pub stands-kept : (l : List A) (x : A) → Stands x (keep p l) → Stands x l × (p x ≡ true)
-  unfolding keep
-  stands-kept [] x h = absurd h
-  stands-kept (y ∷ l) x h =
-      bool-cases (p y)
-      (λ t. ⊎-elim (λ q. (inl q, ap p q ∙ t)) (λ r. let k = stands-kept l x r in (inr (k .0), k .1)) (unfold keep in (rw t at h)))
-      (λ t. let k = stands-kept l x (rw t at h) in (inr (k .0), k .1))
-
--- ---- mapped elements
-
-module _ {A B : Type 0} (f : A → B) where
-  pub stands-mapped : (l : List A) (y : B) → Stands y (map f l) → (x : A) × Stands x l × (y ≡ f x)
-  stands-mapped [] y h = absurd h
-  stands-mapped (x ∷ l) y h = ⊎-elim (λ p. (x, inl refl, p)) (λ r. let k = stands-mapped l y r in (k .0, inr (k .1), k .2)) h
-
-  pub map-stands : (l : List A) (x : A) → Stands x l → Stands (f x) (map f l)
-  map-stands [] x h = absurd h
-  map-stands (y ∷ l) x h = ⊎-elim (λ p. inl (ap f p)) (λ r. inr (map-stands l x r)) h
-
--- ---- ascending lists
-
 module _ {A : Type 0} {compare : A → A → Order} (laws : Orders compare) where
-  pub rising-keep : (p : A → Bool) (l : List A) → Rising compare l → Rising compare (keep p l)
-  unfolding keep
-  rising-keep p [] h = h
-  rising-keep p (y ∷ l) h =
-      bool-cases (p y)
-      (λ t. rw t (above-all laws y (keep p l) (λ z k. above-at laws y z l (h .0) (stands-kept p l z k .0)), rising-keep p l (h .1)))
-      (λ t. rw t (rising-keep p l (h .1)))
-
   -- a function that keeps the order of the list's elements keeps the list ascending
   pub rising-map : {B : Type 0} {compare₂ : B → B → Order} (laws₂ : Orders compare₂) (f : A → B) (l : List A)
       → ((x y : A) → Stands x l → Stands y l → compare x y ≡ Before → compare₂ (f x) (f y) ≡ Before)
@@ -64,7 +22,7 @@ module _ {A : Type 0} {compare : A → A → Order} (laws : Orders compare) wher
   rising-map laws₂ f [] g h = h
   rising-map laws₂ f (x ∷ l) g h = (
     above-all laws₂ (f x) (map f l)
-        (λ z k. let m = stands-mapped f l z k in rw (m .2) (g x (m .0) (inl refl) (inr (m .1)) (above-at laws x (m .0) l (h .0) (m .1)))),
+        (λ z k. let m = map-stands f z l k in rw (m .2) (g x (m .0) (inl refl) (inr (m .1)) (above-at laws x (m .0) l (h .0) (m .1)))),
     rising-map laws₂ f l (λ y z p q. g y z (inr p) (inr q)) (h .1),
   )
 

@@ -7,7 +7,7 @@ use lib.Dec.{eqb, leb}
 use lib.ListN.{length, getD, take}
 use Rattle.definitions.specs.Ascending.{insert}
 use Rattle.definitions.specs.Statements.{Rising}
-use Rattle.cliques.specs.Bits.{both, isSub, withRow, compareBits}
+use Rattle.cliques.specs.Bits.{has, both, isSub, withRow, compareBits}
 
 -- the rows that complement row j, of the words of a graph
 abbrev pub rowOf : List ℕ → ℕ → ℕ
@@ -41,6 +41,10 @@ module _ (near : ℕ → ℕ) where
   unfoldable pub mayTake : ℕ → ℕ → Bool
   mayTake set i = isFull (taken set i) i && eqb (complete (both set (near i)) i) set
 
+  -- row i complements none of a set without row 0: it can neither be joined to the set nor be taken from it
+  unfoldable pub isFar : ℕ → ℕ → Bool
+  isFar set i = (not (eqb set 0) && not (has set 0)) && eqb (both set (near i)) 0
+
   -- The set is maximal among the rows before i, and `undecided` rows from i on are to be decided: lists the maximal sets that grow out of
   -- it, until the list has `cap` sets. A row that complements all of the set is taken; any other is left, and taken where that may be.
   module _ (cap : ℕ) where
@@ -53,7 +57,7 @@ module _ (near : ℕ → ℕ) where
         (searchSets undecided (suc i) (taken set i) (searchSets undecided (suc i) set list))
         (searchSets undecided (suc i) set list)))
 
-    -- how many calls that makes, with the first
+    -- how many calls that makes, with the first; where the program passes a far row without a call, one is counted
     unfoldable pub searchCalls : ℕ → ℕ → ℕ → List ℕ → ℕ
     searchCalls zero i set list = 1
     searchCalls (suc undecided) i set list =

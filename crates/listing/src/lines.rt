@@ -6,18 +6,16 @@ use crate::put::put_byte;
 use crate::put::put_cell;
 use crate::put::put_text;
 ghost use Prim.Native.Nat.{_+_, _*_, _^_, _<_, _≤_};
-ghost use mathlib.Core.Path.{_≡_};
-ghost use mathlib.Core.List.{[], _∷_, map};
+ghost use mathlib.Core.List.{map};
 ghost use lib.ListN.{length};
 ghost use Rattle.definitions.specs.Word.{idOf};
-ghost use Rattle.listing.specs.Ascii.{ascii};
 ghost use Rattle.listing.specs.Text.{columnsLine, unionTitle, minimumTitle, setsTitle, fusedTitle, titleLine, rowLine, raggedLine, refusedLine};
 ghost use Rattle.listing.specs.Written.{lineRoom, IsLine};
 
-// As many bytes as any line takes, and more.
+// More bytes than any line takes: 31 cells, 90 positions, or a name of 256 bytes.
 pub const LINE: usize = 512;
 
-// A title and its numbers.
+// A title line: a word and numbers of up to 20 digits.
 fn title_line(line: &mut [u8; LINE], title: &[u8], numbers: &[usize]) -> usize
     requires { ⌜ length (now title) + 21 * length (now numbers) < lineRoom ⌝ }
     ensures { λ r. ⌜ IsLine (titleLine (now (title .entry)) (now (numbers .entry))) (now (line .exit)) r ⌝ }
@@ -31,7 +29,7 @@ fn title_line(line: &mut [u8; LINE], title: &[u8], numbers: &[usize]) -> usize
     put_byte(line, at, b'\n')
 }
 
-// The ids of the column words.
+// The columns' line: the ids of the column words.
 pub fn columns_line(line: &mut [u8; LINE], columns: &[u32]) -> usize
     requires { ⌜ length (now columns) < 2 ^ 5 ⌝ }
     ensures { λ r. ⌜ IsLine (columnsLine (map idOf (now (columns .entry)))) (now (line .exit)) r ⌝ }
@@ -45,31 +43,35 @@ pub fn columns_line(line: &mut [u8; LINE], columns: &[u32]) -> usize
     put_byte(line, at, b'\n')
 }
 
+// The title of T: its rows and filled cells.
 pub fn union_line(line: &mut [u8; LINE], rows: usize, filled: usize) -> usize
     ensures { λ r. ⌜ IsLine (unionTitle rows filled) (now (line .exit)) r ⌝ }
 {
     title_line(line, b"union", &[rows, filled])
 }
 
+// The title of the minimum union: its rows, its filled cells and the pairs tried.
 pub fn minimum_line(line: &mut [u8; LINE], rows: usize, filled: usize, pairs: usize) -> usize
     ensures { λ r. ⌜ IsLine (minimumTitle rows filled pairs) (now (line .exit)) r ⌝ }
 {
     title_line(line, b"minimum", &[rows, filled, pairs])
 }
 
+// The title of the sets: their number.
 pub fn sets_line(line: &mut [u8; LINE], sets: usize) -> usize
     ensures { λ r. ⌜ IsLine (setsTitle sets) (now (line .exit)) r ⌝ }
 {
     title_line(line, b"sets", &[sets])
 }
 
+// The title of the fused table: its rows and filled cells.
 pub fn fused_line(line: &mut [u8; LINE], rows: usize, filled: usize) -> usize
     ensures { λ r. ⌜ IsLine (fusedTitle rows filled) (now (line .exit)) r ⌝ }
 {
     title_line(line, b"fused", &[rows, filled])
 }
 
-// The cells of a row.
+// A row's line: its cells.
 pub fn row_line(line: &mut [u8; LINE], cells: &[u32]) -> usize
     requires { ⌜ length (now cells) < 2 ^ 5 ⌝ }
     ensures { λ r. ⌜ IsLine (rowLine (now (cells .entry))) (now (line .exit)) r ⌝ }
@@ -86,7 +88,7 @@ pub fn row_line(line: &mut [u8; LINE], cells: &[u32]) -> usize
     put_byte(line, at, b'\n')
 }
 
-// The name of a file whose bytes make no whole number of words.
+// The line of a file whose bytes make no whole number of words.
 pub fn ragged_line(line: &mut [u8; LINE], name: &[u8]) -> usize
     requires { ⌜ length (now name) ≤ 256 ⌝ }
     ensures { λ r. ⌜ IsLine (raggedLine (now (name .entry))) (now (line .exit)) r ⌝ }
@@ -96,7 +98,7 @@ pub fn ragged_line(line: &mut [u8; LINE], name: &[u8]) -> usize
     put_byte(line, at, b'\n')
 }
 
-// A refusal's number and table.
+// The line of a refusal: its number and table.
 pub fn refused_line(line: &mut [u8; LINE], number: u32, table: u32) -> usize
     ensures { λ r. ⌜ IsLine (refusedLine number table) (now (line .exit)) r ⌝ }
 {

@@ -11,10 +11,11 @@ ghost use Rattle.definitions.specs.Limits.{setWidth};
 ghost use Rattle.listing.specs.Marks.{positionIf, marksIn, recordLine, listed};
 ghost use Rattle.listing.specs.Written.{Written, IsLine};
 
-// The mark words of a record, and the positions of each.
+// The mark words of a record.
 const MARK_WORDS: usize = 3;
 
-const MARKS: u32 = 30;
+// The positions that a mark word holds.
+const MARKS: usize = 30;
 
 // The position and a space where its bit is 1, and nothing where it is 0.
 fn put_mark(out: &mut [u8], at: usize, bit: u32, position: usize) -> usize
@@ -36,9 +37,9 @@ fn put_marks(out: &mut [u8], at: usize, word: u32, from: usize) -> usize
     ensures short { λ r. ⌜ r ≤ at + 120 ⌝ }
 {
     let mut end = at;
-    let mut k: u32 = 0;
+    let mut k = 0;
     while k < MARKS {
-        end = put_mark(out, end, (word >> k) & 1, from + k as usize);
+        end = put_mark(out, end, (word >> k) & 1, from + k);
         k += 1;
     }
     end
@@ -52,7 +53,7 @@ pub fn set_line(line: &mut [u8; LINE], set: &[u32]) -> usize
     let mut at = 0;
     let mut i = 0;
     while i < MARK_WORDS {
-        at = put_marks(line, at, set[i], 30 * i);
+        at = put_marks(line, at, set[i], MARKS * i);
         i += 1;
     }
     at = put_byte(line, at, b'>');

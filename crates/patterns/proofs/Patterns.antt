@@ -1,4 +1,5 @@
--- Laws of the filled pattern of a row: its bound, its next bit, and that its ones are the filled cells. Assumes nothing.
+-- Laws of filled cells and patterns: a pattern's bound, its next bit, that its ones are the filled cells, and the walks that count and write. Assumes
+-- nothing.
 use mathlib.Core.Path.{_≡_, refl, sym, _∙_, ap, ap₂}
 use mathlib.Core.Bool.{Bool, true, false, cond}
 use mathlib.Core.List.{List, [], _∷_, _++_, map, flatten}
@@ -6,8 +7,8 @@ use Prim.Native.Nat.{ℕ, suc, _+_, _-_, _*_, _/_, _%_, _^_, _<_, _≤_}
 use native.Mathlib.Nat.{pow-suc, lt-of-lt-of-le, zero-add, add-mul, one-mul}
 use native.Mathlib.Numerals.{add-one}
 use native.Mathlib.Omega.{arith}
-use lib.ListN.{length, getD, take, drop, set, length-take, length-drop, length-map, drop-of-length-le, List·getD-map}
-use lib.Seq.{drop-cons, take-all, paste, paste-suc}
+use lib.ListN.{length, getD, take, drop, set, length-drop, length-map, drop-of-length-le, List·getD-map}
+use lib.Seq.{drop-cons, take-all, length-take-le, getD-take, paste, paste-suc}
 use lib.Bits.{bitOr, or-shifted}
 use lib.Pow.{pow-mono}
 use lib.Count.{ones, ones-step}
@@ -16,7 +17,7 @@ use Rattle.definitions.specs.Word.{isFilled}
 use Rattle.definitions.specs.Image.{rowsIn}
 use Rattle.definitions.specs.MinimumUnion.{filled}
 use Rattle.definitions.specs.SetList.{bits}
-use Rattle.lists.proofs.Flat.{rows-length, rows-at, row-fits, row-next, part-row}
+use Rattle.lists.proofs.Flat.{rows-length, rows-at, row-fits, part-row, words-rows}
 use Rattle.patterns.specs.Pattern.{patternOf}
 
 -- 1 for a filled cell, 0 for the empty cell
@@ -62,17 +63,23 @@ pattern-turn row i p b few pos le e f =
     ∙ ap₂ (λ (x y : ℕ). x + 2 * y) (sym f) (sym e) in
     ap (λ (k : ℕ). bitOr k b) s ∙ or-shifted p 1 b t ∙ omega arith
 
--- ---- the filled cells of rows
+-- ---- the filled cells of a list, counted from the first
 
-filled-append : (u v : List ℕ) → filled (u ++ v) ≡ filled u + filled v
+pub count-turn : (w : List ℕ) (end i total b : ℕ) → end ≤ length w → i < end → b ≡ bitOf (getD w i 0)
+    → total + filled (drop i (take end w)) ≡ filled (take end w) → total + b + filled (drop (i + 1) (take end w)) ≡ filled (take end w)
 unfolding filled
-filled-append [] v = omega arith
-filled-append (x ∷ u) v = omega (arith, filled-append u v)
+count-turn w end i total b h k e inv =
+    let cons : drop i (take end w) ≡ getD (take end w) i 0 ∷ drop (i + 1) (take end w) = rw (add-one, drop-cons (take end w) i 0 (omega (arith, length-take-le end w h))) in
+    let next : filled (drop i (take end w)) ≡ bitOf (getD (take end w) i 0) + filled (drop (i + 1) (take end w)) = ap filled cons in
+    omega (arith, next, e, ap bitOf (getD-take end w i 0 k))
 
-filled-le : (s : List ℕ) → filled s ≤ length s
+-- no cell is left, and the words of the rows are counted
+pub count-ends : (c n total : ℕ) (w : List ℕ) → n * c ≤ length w → total + filled (drop (n * c) (take (n * c) w)) ≡ filled (take (n * c) w)
+    → total ≡ filled (flatten (rowsIn c n w))
 unfolding filled
-filled-le [] = omega arith
-filled-le (x ∷ s) = omega (arith, filled-le s, bit-small (isFilled x))
+count-ends c n total w h inv =
+    let none : filled (drop (n * c) (take (n * c) w)) ≡ 0 = ap filled (drop-of-length-le (take (n * c) w) {i = n * c} (omega (arith, length-take-le (n * c) w h))) in
+    omega (arith, none, inv, ap filled (words-rows c n w))
 
 -- ---- a walk over n rows of c words, at the row i
 
@@ -85,18 +92,6 @@ module _ (c n i at : ℕ) (w : List ℕ) (more : i < n) (here : at ≡ i * c) wh
 
   row-here : take (at + c - at) (drop at w) ≡ take c (drop (i * c) w)
   row-here = part-row c at w ∙ ap (λ (k : ℕ). take c (drop k w)) here
-
-  pub filled-turn : (total r all : ℕ) → r ≡ filled (take (at + c - at) (drop at w)) → total + filled (flatten (drop i (rowsIn c n w))) ≡ all
-      → total + r + filled (flatten (drop (i + 1) (rowsIn c n w))) ≡ all
-  unfolding flatten
-  filled-turn total r all e inv =
-      let next : filled (flatten (drop i (rowsIn c n w))) ≡ filled (take c (drop (i * c) w)) + filled (flatten (drop (i + 1) (rowsIn c n w))) =
-      ap (λ (t : List (List ℕ)). filled (flatten t)) (row-next c n i w more)
-      ∙ filled-append (take c (drop (i * c) w)) (flatten (drop (i + 1) (rowsIn c n w))) in
-      omega (arith, next, e ∙ ap filled row-here)
-
-  pub filled-fits : (r : ℕ) → r ≡ filled (take (at + c - at) (drop at w)) → r ≤ c
-  filled-fits r e = omega (arith, e ∙ ap filled row-here, filled-le (take c (drop (i * c) w)), length-take c (drop (i * c) w))
 
   pub patterns-turn : (found now : List ℕ) (p : ℕ) → n ≤ length found → now ≡ paste found 0 (map patternOf (rowsIn c n w)) i
       → p ≡ patternOf (take (at + c - at) (drop at w)) → set now i p ≡ paste found 0 (map patternOf (rowsIn c n w)) (i + 1)
@@ -111,8 +106,3 @@ pub patterns-end : (c n : ℕ) (w found : List ℕ) → paste found 0 (map patte
 patterns-end c n w found =
     let l : length (map patternOf (rowsIn c n w)) ≡ n = length-map (rowsIn c n w) patternOf ∙ rows-length c n w in
     rw (zero-add, take-all n (map patternOf (rowsIn c n w)) (omega arith))
-
--- no rows are left
-pub filled-end : (c n : ℕ) (w : List ℕ) → filled (flatten (drop n (rowsIn c n w))) ≡ 0
-unfolding filled flatten
-filled-end c n w = rw (drop-of-length-le (rowsIn c n w) {i = n} (omega (arith, rows-length c n w)))

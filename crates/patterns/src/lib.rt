@@ -1,10 +1,9 @@
-// The filled patterns of rows, and the count of filled cells by the ones of a pattern.
+// The filled patterns of rows, the ones of a pattern, and the count of filled cells.
 ghost use mathlib.Core.Path.{_≡_};
 ghost use mathlib.Core.Bool.{cond};
 ghost use mathlib.Core.List.{_++_, flatten, map};
 ghost use Prim.Native.Nat.{_*_, _≤_, _<_, _^_};
 ghost use lib.ListN.{length, drop};
-ghost use lib.Count.{ones};
 ghost use Rattle.definitions.specs.Limits.{maxColumns};
 ghost use Rattle.definitions.specs.Word.{isFilled};
 ghost use Rattle.definitions.specs.Image.{rowsIn};
@@ -13,16 +12,7 @@ ghost use Rattle.patterns.specs.Pattern.{patternOf};
 
 mod ones;
 
-// The ones of a word.
-pub fn count_ones(p: u32) -> u32
-    ensures { λ r. ⌜ r ≡ ones p ⌝ }
-{
-    let low = ones::in_byte((p & 255) as usize);
-    let second = ones::in_byte(((p >> 8) & 255) as usize);
-    let third = ones::in_byte(((p >> 16) & 255) as usize);
-    let high = ones::in_byte((p >> 24) as usize);
-    low as u32 + second as u32 + third as u32 + high as u32
-}
+pub use ones::count_ones;
 
 // 1 for a filled cell, 0 for the empty cell.
 fn bit(cell: u32) -> u32
@@ -55,16 +45,14 @@ pub fn count_filled(row: &[u32]) -> u32
 
 // The filled cells of the first n rows of width cells.
 pub fn count_rows(cells: &[u32], n: usize, width: usize) -> usize
-    requires { ⌜ (width ≤ maxColumns) × (n * width ≤ length (now cells)) ⌝ }
+    requires { ⌜ n * width ≤ length (now cells) ⌝ }
     ensures { λ r. ⌜ r ≡ filled (flatten (rowsIn width n (now (cells .entry)))) ⌝ }
 {
+    let end = n * width;
     let mut total = 0;
     let mut i = 0;
-    let mut at = 0;
-    while i < n {
-        let next = at + width;
-        total += count_filled(&cells[at..next]) as usize;
-        at = next;
+    while i < end {
+        total += bit(cells[i]) as usize;
         i += 1;
     }
     total

@@ -1,6 +1,5 @@
-// The table of the ones in a byte.
+// The count of ones, by a table of the ones in a byte.
 ghost use mathlib.Core.Path.{_≡_};
-ghost use Prim.Native.Nat.{_<_};
 ghost use lib.Count.{ones};
 
 // The ones in each byte.
@@ -263,9 +262,14 @@ const ONES: [u8; 256] = [
     8,
 ];
 
-pub fn in_byte(b: usize) -> u8
-    requires { ⌜ b < 256 ⌝ }
-    ensures { λ r. ⌜ r ≡ ones b ⌝ }
+// The ones of a word, byte by byte.
+pub fn count_ones(p: u32) -> u32
+    ensures { λ r. ⌜ r ≡ ones p ⌝ }
 {
-    ONES[b]
+    let table = ONES;
+    let low = table[(p & 255) as usize];
+    let second = table[((p >> 8) & 255) as usize];
+    let third = table[((p >> 16) & 255) as usize];
+    let high = table[(p >> 24) as usize];
+    low as u32 + second as u32 + third as u32 + high as u32
 }

@@ -8,8 +8,7 @@ ghost use Rattle.definitions.specs.ComplementUnion.{sameRow};
 ghost use Rattle.definitions.specs.Statements.{Stands};
 ghost use Rattle.lists.specs.Spot.{spotIn};
 ghost use Rattle.rows.specs.Numbers.{rowsAt, Listed};
-use crate::compare::compare_rows;
-use crate::compare::wide;
+use crate::compare::compare_with;
 use definitions::Order;
 use lists::Spot;
 
@@ -18,14 +17,11 @@ pub fn find_row(cells: &[u32], order: &[u32], m: usize, row: &[u32]) -> Spot
     requires { ⌜ (m ≤ length (now order)) × Listed (length (now row)) (now cells) (take m (now order)) ⌝ }
     ensures { λ r. ⌜ r ≡ spotIn compareRow (now (row .entry)) (rowsAt (length (now (row .entry))) (now (cells .entry)) (take m (now (order .entry)))) ⌝ }
 {
-    let width = row.len();
     let mut lo = 0;
     let mut hi = m;
     while lo < hi {
         let mid = lo + (hi - lo) / 2;
-        let at = wide(order[mid]) * width;
-        let end = at + width;
-        match compare_rows(row, &cells[at..end]) {
+        match compare_with(cells, row, order[mid]) {
             Order::Before => {
                 hi = mid;
             }

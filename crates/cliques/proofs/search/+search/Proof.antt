@@ -1,22 +1,24 @@
--- `search` lists what the function of the same recursion lists: a law for each return. The measure is the count of undecided rows.
-use mathlib.Core.Path.{refl, sym, ap, ap₂, _∙_, subst}
+-- `search` lists what the function of the same recursion lists: far rows are passed, then a law for each return. The measure is the count
+-- of undecided rows.
+use mathlib.Core.Path.{_≡_, refl, sym, ap, ap₂, _∙_, subst}
 use mathlib.Core.List.{List}
-use Prim.Native.Nat.{ℕ, suc, _+_, _-_, _<_}
+use Prim.Native.Nat.{ℕ, suc, _+_, _-_, _≤_, _<_}
 use native.Mathlib.Omega.{arith}
-use lib.ListN.{take}
+use lib.ListN.{length, take}
 use borrow.Author.Needs.{needs}
 use borrow.Fn.Kinds.{In}
 use borrow.Fn.PlainCycle.{Measures, is, falls, and}
-use Rattle.definitions.specs.Limits.{maxSets}
+use Rattle.definitions.specs.Limits.{maxSets, maxUnionRows}
 use Rattle.definitions.specs.Statements.{Rising}
 use Rattle.cliques.specs.Bits.{compareBits}
-use Rattle.cliques.specs.Search.{rowOf, searchSets}
+use Rattle.cliques.specs.Search.{Ready, rowOf, searchSets}
 use Rattle.cliques.proofs.Run.{search-rises}
-use Rattle.cliques.proofs.Steps.{ready-next, search-stops, search-lists, search-joins, search-leaves, search-takes}
+use Rattle.cliques.proofs.Steps.{ready-past, ready-next, search-stops, search-passes, search-lists, search-joins, search-leaves, search-takes}
 use Rattle.cliques.proofs.search.search.Reads as search′
 use Rattle.cliques.proofs.search.search.Kinds as search-kinds
 use Rattle.cliques.proofs.search.+search.Lts-search as lts
 use Rattle.cliques.proofs.listing.insert.Reads as insert-reads
+use Rattle.cliques.proofs.search.far_rows.Reads as far-rows-reads
 use Rattle.cliques.proofs.search.may_take.Reads as may-take-reads
 use Rattle.cliques.proofs.search.take_row.Reads as take-row-reads
 use Rattle.cliques.proofs.sets.is_sub.Reads as is-sub-reads
@@ -35,6 +37,8 @@ below t = and 2 search-kinds.ps (falls 2 search-kinds.ps _<_ μ-search t) search
 
 abbrev claims : ℕ → lts.Claims
 claims t = (
+  far-rows-reads.Asked,
+  far-rows-reads.Learnt,
   insert-reads.Asked,
   insert-reads.Learnt,
   is-sub-reads.Asked,
@@ -56,6 +60,53 @@ module _ (t : ℕ) where
       let s = q .args in
       (search needs, search-stops (rowOf (s .neighbours .now)) (suc maxSets) (s .i) (s .set) (s .count) (s .list .now) (search needs) (s .undecided) (search needs))
 
+  far-rows-requires : lts.Need-far-rows-requires (claims t) (at t) search′.Post
+  far-rows-requires c κs = search needs
+
+  add-row : lts.Need-add-row (claims t) (at t) search′.Post
+  add-row c = search needs
+
+  sub-left : lts.Need-sub-left (claims t) (at t) search′.Post
+  sub-left c = search needs
+
+  -- where far rows are passed: the search is ready for the next row, the list is not full, and the rows left list the same
+  module _ (c : lts.After-far-rows (claims t) (at t) search′.Post) where
+    abbrev words : List ℕ
+    words = c .before .before .before .before .args .list .now
+
+    abbrev count : ℕ
+    count = c .before .before .before .before .args .count
+
+    abbrev set : ℕ
+    set = c .before .before .before .before .args .set
+
+    abbrev N : ℕ → ℕ
+    N = rowOf (c .before .before .before .before .args .neighbours .now)
+
+    abbrev row : ℕ
+    row = c .before .before .before .before .args .i + c .far-rows .result
+
+    abbrev left : ℕ
+    left = c .before .before .before .before .args .undecided - c .far-rows .result
+
+    ready : Ready maxUnionRows (suc maxSets) (c .before .before .before .before .args .neighbours .now) row left words count
+    ready = ready-past (c .before .before .before .before .pre .1) (c .far-rows .result) (c .far-rows .ensures .0)
+
+    fits : count ≤ length words
+    fits = omega (arith, ready .room, ready .few)
+
+    few : count < suc maxSets
+    few = omega (arith, c .before .if1 .left)
+
+    passes : searchSets N (suc maxSets) left row set (take count words)
+        ≡ searchSets N (suc maxSets) (c .before .before .before .before .args .undecided) (c .before .before .before .before .args .i) set (take count words)
+    passes =
+        search-passes N (suc maxSets) (c .before .before .before .before .args .i) set count words fits (c .before .before .before .before .args .undecided)
+        (c .far-rows .result) few (c .far-rows .ensures .0) (c .far-rows .ensures .1)
+
+    less : (left ≡ 0 → ⊥) → left - 1 < t
+    less some = omega (arith, c .before .before .before .before .pre .0)
+
   insert-requires : lts.Need-insert-requires (claims t) (at t) search′.Post
   insert-requires c κs = search needs
 
@@ -65,12 +116,11 @@ module _ (t : ℕ) where
   returns-2 : lts.Need-returns-2 (claims t) (at t) search′.Post
   returns-2 c =
       let k = c .before .before in
-      let q = k .before .before .before .before .before .before in
-      let s = q .args in (
+      let p = k .before .before .before in (
         search needs,
         k .insert .ensures .1
-            ∙ search-lists (rowOf (s .neighbours .now)) (suc maxSets) (s .i) (s .set) (s .count) (s .list .now) (omega (arith, q .pre .1 .room, q .pre .1 .few)) (s .undecided)
-            (k .before .before .if2 .taken) (search needs),
+            ∙ search-lists (N p) (suc maxSets) (row p) (set p) (count p) (words p) (fits p) (left p) (k .before .before .if2 .taken) (few p)
+            ∙ passes p,
       )
 
   mul-is-sub : lts.Need-mul-is-sub (claims t) (at t) search′.Post
@@ -93,11 +143,9 @@ module _ (t : ℕ) where
 
   search-requires : lts.Need-search-requires (claims t) (at t) search′.Post
   search-requires c κs =
-      let u = c .before .before .before in
-      let q = u .before .before .before .before .before .before in
-      let s = q .args in
-      let some = u .before .before .if2 .left in
-      (omega (arith, q .pre .0), ready-next (q .pre .1) some (s .list .now) (s .count) refl (q .pre .1 .few) (q .pre .1 .order))
+      let p = c .before .before .before .before .before .before in
+      let some = c .before .before .before .before .before .if2 .left in
+      (less p some, ready-next (ready p) some (words p) (count p) refl (ready p .few) (ready p .order))
 
   same-length-2 : lts.Need-same-length-2 (claims t) (at t) search′.Post
   same-length-2 c = search needs
@@ -107,14 +155,13 @@ module _ (t : ℕ) where
       let k = c .before .before in
       let w = k .before .before in
       let u = w .before .before in
-      let q = u .before .before .before .before .before .before in
-      let s = q .args in
-      let N = rowOf (s .neighbours .now) in (
+      let p = u .before .before .before in (
         k .search .ensures .0,
         k .search .ensures .1
-            ∙ ap (λ (x : ℕ). searchSets N (suc maxSets) (s .undecided - 1) (s .i + 1) x (take (s .count) (s .list .now))) (w .with-row .ensures)
-            ∙ search-joins N (suc maxSets) (s .i) (s .set) (s .count) (s .list .now) (omega (arith, q .pre .1 .room, q .pre .1 .few)) (s .undecided)
-            (u .before .before .if2 .left) (omega (arith, u .before .before .before .if1 .left)) (sym (u .is-sub .ensures) ∙ w .before .if3 .taken),
+            ∙ ap (λ (x : ℕ). searchSets (N p) (suc maxSets) (left p - 1) (row p + 1) x (take (count p) (words p))) (w .with-row .ensures)
+            ∙ search-joins (N p) (suc maxSets) (row p) (set p) (count p) (words p) (fits p) (left p) (u .before .before .if2 .left) (few p)
+            (sym (u .is-sub .ensures) ∙ w .before .if3 .taken)
+            ∙ passes p,
       )
 
   add-search-2 : lts.Need-add-search-2 (claims t) (at t) search′.Post
@@ -125,11 +172,9 @@ module _ (t : ℕ) where
 
   search-requires-2 : lts.Need-search-requires-2 (claims t) (at t) search′.Post
   search-requires-2 c κs =
-      let u = c .before .before in
-      let q = u .before .before .before .before .before .before in
-      let s = q .args in
-      let some = u .before .before .if2 .left in
-      (omega (arith, q .pre .0), ready-next (q .pre .1) some (s .list .now) (s .count) refl (q .pre .1 .few) (q .pre .1 .order))
+      let p = c .before .before .before .before .before in
+      let some = c .before .before .before .before .if2 .left in
+      (less p some, ready-next (ready p) some (words p) (count p) refl (ready p .few) (ready p .order))
 
   may-take-requires : lts.Need-may-take-requires (claims t) (at t) search′.Post
   may-take-requires c κs = search needs
@@ -147,14 +192,12 @@ module _ (t : ℕ) where
   search-requires-3 c κs =
       let k = c .before .before .before .before .before .before in
       let u = k .before .before .before in
-      let q = u .before .before .before .before .before .before in
-      let s = q .args in
-      let some = u .before .before .if2 .left in
-      let grown = k .search2 .last .1 .1 .1 .1 .0 in (
-        omega (arith, q .pre .0),
-        ready-next (q .pre .1) some grown (k .search2 .result) (k .search2 .kept .1 .1 .1 .1 .0) (k .search2 .ensures .0)
+      let p = u .before .before .before in
+      let some = u .before .before .if2 .left in (
+        less p some,
+        ready-next (ready p) some (k .search2 .last .1 .1 .1 .1 .0) (k .search2 .result) (k .search2 .kept .1 .1 .1 .1 .0) (k .search2 .ensures .0)
             (subst (Rising compareBits) (sym (k .search2 .ensures .1))
-            (search-rises (rowOf (s .neighbours .now)) (suc maxSets) (s .undecided - 1) (s .i + 1) (s .set) (take (s .count) (s .list .now)) (q .pre .1 .order))),
+            (search-rises (N p) (suc maxSets) (left p - 1) (row p + 1) (set p) (take (count p) (words p)) (ready p .order))),
       )
 
   same-length-3 : lts.Need-same-length-3 (claims t) (at t) search′.Post
@@ -167,15 +210,13 @@ module _ (t : ℕ) where
       let m = w .before .before in
       let f = m .before .before .before in
       let u = f .before .before .before in
-      let q = u .before .before .before .before .before .before in
-      let s = q .args in
-      let N = rowOf (s .neighbours .now) in (
+      let p = u .before .before .before in (
         k .search3 .ensures .0,
         k .search3 .ensures .1
-            ∙ ap₂ (λ (x : ℕ) (l : List ℕ). searchSets N (suc maxSets) (s .undecided - 1) (s .i + 1) x l) (w .take-row .ensures) (f .search2 .ensures .1)
-            ∙ search-takes N (suc maxSets) (s .i) (s .set) (s .count) (s .list .now) (omega (arith, q .pre .1 .room, q .pre .1 .few)) (s .undecided)
-            (u .before .before .if2 .left) (omega (arith, u .before .before .before .if1 .left)) (sym (u .is-sub .ensures) ∙ f .before .before .if3 .left)
-            (sym (m .may-take .ensures) ∙ w .before .if4 .taken),
+            ∙ ap₂ (λ (x : ℕ) (l : List ℕ). searchSets (N p) (suc maxSets) (left p - 1) (row p + 1) x l) (w .take-row .ensures) (f .search2 .ensures .1)
+            ∙ search-takes (N p) (suc maxSets) (row p) (set p) (count p) (words p) (fits p) (left p) (u .before .before .if2 .left) (few p)
+            (sym (u .is-sub .ensures) ∙ f .before .before .if3 .left) (sym (m .may-take .ensures) ∙ w .before .if4 .taken)
+            ∙ passes p,
       )
 
   same-length-4 : lts.Need-same-length-4 (claims t) (at t) search′.Post
@@ -186,13 +227,12 @@ module _ (t : ℕ) where
       let m = c .before in
       let f = m .before .before .before in
       let u = f .before .before .before in
-      let q = u .before .before .before .before .before .before in
-      let s = q .args in (
+      let p = u .before .before .before in (
         f .search2 .ensures .0,
         f .search2 .ensures .1
-            ∙ search-leaves (rowOf (s .neighbours .now)) (suc maxSets) (s .i) (s .set) (s .count) (s .list .now) (omega (arith, q .pre .1 .room, q .pre .1 .few)) (s .undecided)
-            (u .before .before .if2 .left) (omega (arith, u .before .before .before .if1 .left)) (sym (u .is-sub .ensures) ∙ f .before .before .if3 .left)
-            (sym (m .may-take .ensures) ∙ c .if4 .left),
+            ∙ search-leaves (N p) (suc maxSets) (row p) (set p) (count p) (words p) (fits p) (left p) (u .before .before .if2 .left) (few p)
+            (sym (u .is-sub .ensures) ∙ f .before .before .if3 .left) (sym (m .may-take .ensures) ∙ c .if4 .left)
+            ∙ passes p,
       )
 
 pub +search-spec : {M : Type 1} → statement M
@@ -200,6 +240,9 @@ pub +search-spec : {M : Type 1} → statement M
     (at t)
     search′.Post
     (returns t)
+    (far-rows-requires t)
+    (add-row t)
+    (sub-left t)
     (insert-requires t)
     (same-length t)
     (returns-2 t)

@@ -65,7 +65,8 @@ loop-again c =
     let l = c .before .before .before .before .loop in
     let m = c .before .mark in
     let held : m .result ≡ cond (complement (rowAt (a .width) (a .cells .now) (a .j)) (rowAt (a .width) (a .cells .now) (l .k))) 1 0 =
-    m .ensures ∙ ap (λ (b : Bool). cond b 1 0) (c .before .before .complement-at .ensures) in (
+    m .ensures
+    ∙ ap (λ (b : Bool). cond b 1 0) {y = complement (rowAt (a .width) (a .cells .now) (a .j)) (rowAt (a .width) (a .cells .now) (l .k))} (c .before .before .complement-at .ensures) in (
       search needs,
       grown-turn (a .width) (a .j) (a .cells .now) (a .neighbours .now) (s .pre .0) (s .pre .3) (s .pre .4) (l .k) (m .result) (search needs) held (l .neighbours) (l .inv .1),
       word-turn (a .width) (a .j) (a .cells .now) (a .neighbours .now) (s .pre .0) (s .pre .3) (s .pre .4) (l .k) (m .result) (search needs) held (l .word) (l .inv .2),

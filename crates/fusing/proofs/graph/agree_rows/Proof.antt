@@ -1,19 +1,17 @@
--- `agree_rows` meets its contract. The loop's invariant: what holds of the rows is what holds of their columns from i on.
-use mathlib.Core.Path.{_≡_, refl, sym, _∙_}
-use Prim.Native.Nat.{_-_, _≤_}
-use lib.ListN.{length, drop}
+-- `agree_rows` meets its contract. The loop's invariant: the rows agree if they did in the first i columns and do from there on.
 use borrow.Author.Needs.{needs}
-use borrow.Author.Tests.{not-true, not-false}
-use Rattle.definitions.specs.ComplementUnion.{agree}
-use Rattle.fusing.proofs.Agreeing.{agree-stop, agree-go, agree-end}
+use mathlib.Core.Path.{refl}
+use Prim.Native.Nat.{_-_, _≤_}
+use lib.ListN.{length}
+use Rattle.fusing.proofs.Agreeing.{AgreesFrom, agree-turn, agree-end}
 use Rattle.fusing.proofs.graph.agree_rows.Statement.{statement}
 use Rattle.fusing.proofs.graph.agree_rows.Tie as tie
 
 abbrev Inv-loop : tie.InvT-loop
-Inv-loop s t i₀ i = (i ≤ length s) × (agree s t ≡ agree (drop i s) (drop i t))
+Inv-loop s t agreed₀ i₀ agreed i = (i ≤ length s) × AgreesFrom s t i agreed
 
 abbrev μ-loop : tie.MeasureT-loop
-μ-loop s t i₀ i = length s - i
+μ-loop s t agreed₀ i₀ agreed i = length s - i
 
 loop-holds : tie.Need-loop-holds Inv-loop μ-loop
 loop-holds c = (search needs, refl)
@@ -33,12 +31,6 @@ shared-slice-read-cells-agree-2 c = search needs
 cells-agree-requires : tie.Need-cells-agree-requires Inv-loop μ-loop
 cells-agree-requires c κs = search needs
 
-returns : tie.Need-returns Inv-loop μ-loop
-returns c =
-    let a = c .before .before .before .before .before .before .before .before .args in
-    let l = c .before .before .before .before .before .loop in
-    agree-stop (a .s .now) (a .t .now) (l .i) (search needs) (l .inv .1) (search needs) (sym (c .before .cells-agree .ensures) ∙ not-true (c .before .cells-agree .result) (c .if1 .taken))
-
 add-i : tie.Need-add-i Inv-loop μ-loop
 add-i c = search needs
 
@@ -47,15 +39,15 @@ loop-less c = search needs
 
 loop-again : tie.Need-loop-again Inv-loop μ-loop
 loop-again c =
-    let a = c .before .before .before .before .before .before .before .before .args in
-    let l = c .before .before .before .before .before .loop in
-    (search needs, agree-go (a .s .now) (a .t .now) (l .i) (search needs) (l .inv .1) (search needs) (sym (c .before .cells-agree .ensures) ∙ not-false (c .before .cells-agree .result) (c .if1 .left)))
+    let a = c .before .before .before .before .before .before .before .args in
+    let l = c .before .before .before .before .loop in
+    (search needs, agree-turn (a .s .now) (a .t .now) (l .i) (l .agreed) (search needs) (l .inv .1) (c .cells-agree .result) (search needs) (c .cells-agree .ensures))
 
-returns-2 : tie.Need-returns-2 Inv-loop μ-loop
-returns-2 c =
+returns : tie.Need-returns Inv-loop μ-loop
+returns c =
     let a = c .before .before .before .before .args in
     let l = c .before .loop in
-    agree-end (a .s .now) (a .t .now) (l .i) (search needs) (l .inv .1) (search needs)
+    agree-end (a .s .now) (a .t .now) (l .i) (l .agreed) (search needs) (l .inv .1) (search needs)
 
 pub agree-rows-spec : {M : Type 1} → statement M
 agree-rows-spec =
@@ -69,8 +61,7 @@ agree-rows-spec =
     mul-cells-agree-2
     shared-slice-read-cells-agree-2
     cells-agree-requires
-    returns
     add-i
     loop-less
     loop-again
-    returns-2)
+    returns)

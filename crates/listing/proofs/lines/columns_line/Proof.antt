@@ -57,7 +57,9 @@ cast-next-number : tie.Need-cast-next-number Inv-loop μ-loop
 cast-next-number c = search needs
 
 next-number-requires : tie.Need-next-number-requires Inv-loop μ-loop
-next-number-requires c κs = omega (arith, id-length (getD (c .before .before .before .before .before .before .before .before .before .args .columns .now) (c .before .before .before .before .loop .i) 0) (c .id .ensures))
+next-number-requires c κs =
+    let turned = c .before .before .before .before in
+    omega (arith, id-length (getD (turned .before .before .before .before .before .args .columns .now) (turned .loop .i) 0) (c .id .ensures))
 
 add-i : tie.Need-add-i Inv-loop μ-loop
 add-i c = search needs
@@ -66,17 +68,21 @@ loop-less : tie.Need-loop-less Inv-loop μ-loop
 loop-less c = search needs
 
 loop-again : tie.Need-loop-again Inv-loop μ-loop
-loop-again c = (
-  omega arith,
-  omega (arith, id-length (getD (c .before .before .before .before .before .before .before .before .before .before .args .columns .now) (c .before .before .before .before .before .loop .i) 0) (c .before .id .ensures)),
-  fields-turn idText (c .before .before .before .before .before .before .before .before .before .before .args .columns .now) (c .before .before .before .before .before .loop .i) (omega arith) (as-written (ap (λ (n : ℕ). 32 ∷ decimal n) (c .before .id .ensures)) (c .next-number .ensures)) (c .before .before .before .before .before .loop .inv .2),
-)
+loop-again c =
+    let turned = c .before .before .before .before .before in
+    let columns = turned .before .before .before .before .before .args .columns .now in (
+      omega arith,
+      omega (arith, id-length (getD columns (turned .loop .i) 0) (c .before .id .ensures)),
+      fields-turn idText columns (turned .loop .i) (omega arith) (as-written (ap (λ (n : ℕ). 32 ∷ decimal n) (c .before .id .ensures)) (c .next-number .ensures)) (turned .loop .inv .2),
+    )
 
 put-byte-requires : tie.Need-put-byte-requires Inv-loop μ-loop
 put-byte-requires c κs = omega arith
 
 returns : tie.Need-returns Inv-loop μ-loop
-returns c = fields-end idText (c .before .before .before .before .before .before .before .before .args .columns .now) (c .before .before .before .loop .i) (omega arith) (omega arith) (c .put-byte .ensures) (c .before .before .before .loop .inv .2)
+returns c =
+    let turned = c .before .before .before in
+    fields-end idText (turned .before .before .before .before .before .args .columns .now) (turned .loop .i) (omega arith) (omega arith) (c .put-byte .ensures) (turned .loop .inv .2)
 
 pub columns-line-spec : {M : Type 1} → statement M
 columns-line-spec =

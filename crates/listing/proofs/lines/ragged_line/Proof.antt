@@ -20,8 +20,10 @@ put-byte-requires c κs = search needs
 
 returns : tie.Need-returns
 returns c =
+    let start = c .before .before .before .before .before .before .before .before in
     line-ends (omega arith) (c .put-byte .ensures)
-    (field-turn [] (c .before .before .next-word .ensures) (line-starts (c .before .before .before .before .before .before .before .before .args .name .now ∷ []) (c .before .before .before .before .put-text .ensures)))
+    (field-turn [] (c .before .before .next-word .ensures)
+    (line-starts (start .args .name .now ∷ []) (c .before .before .before .before .put-text .ensures)))
 
 pub ragged-line-spec : {M : Type 1} → statement M
 ragged-line-spec =

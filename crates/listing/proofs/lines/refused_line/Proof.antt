@@ -1,6 +1,7 @@
 -- `refused_line` meets its contract: a line of four fields.
 use native.Mathlib.Omega.{arith}
-use mathlib.Core.List.{[], _∷_}
+use Prim.Native.Nat.{ℕ}
+use mathlib.Core.List.{List, [], _∷_}
 use Rattle.listing.specs.Ascii.{ascii}
 use Rattle.listing.specs.Text.{decimal}
 use Rattle.listing.proofs.Digits.{decimal-length}
@@ -25,18 +26,26 @@ next-word-requires : tie.Need-next-word-requires
 next-word-requires c κs = omega (arith, decimal-length 9 (c .before .before .before .before .before .before .before .args .number) (omega arith))
 
 next-number-requires-2 : tie.Need-next-number-requires-2
-next-number-requires-2 c κs = omega (arith, decimal-length 9 (c .before .before .before .before .before .before .before .before .before .args .number) (omega arith), decimal-length 9 (c .before .before .before .before .before .before .before .before .before .args .table) (omega arith))
+next-number-requires-2 c κs =
+    let start = c .before .before .before .before .before .before .before .before .before in
+    omega (arith, decimal-length 9 (start .args .number) (omega arith), decimal-length 9 (start .args .table) (omega arith))
 
 put-byte-requires : tie.Need-put-byte-requires
-put-byte-requires c κs = omega (arith, decimal-length 9 (c .before .before .before .before .before .before .before .before .before .before .before .args .number) (omega arith), decimal-length 9 (c .before .before .before .before .before .before .before .before .before .before .before .args .table) (omega arith))
+put-byte-requires c κs =
+    let start = c .before .before .before .before .before .before .before .before .before .before .before in
+    omega (arith, decimal-length 9 (start .args .number) (omega arith), decimal-length 9 (start .args .table) (omega arith))
 
 returns : tie.Need-returns
 returns c =
-    line-ends (omega (arith, decimal-length 9 (c .before .before .before .before .before .before .before .before .before .before .before .before .args .number) (omega arith), decimal-length 9 (c .before .before .before .before .before .before .before .before .before .before .before .before .args .table) (omega arith))) (c .put-byte .ensures)
+    let named = c .before .before .before .before in
+    let numbered = c .before .before .before .before .before .before .before in
+    let start = c .before .before .before .before .before .before .before .before .before .before .before .before in
+    let table : List (List ℕ) = decimal (start .args .table) ∷ [] in
+    line-ends (omega (arith, decimal-length 9 (start .args .number) (omega arith), decimal-length 9 (start .args .table) (omega arith))) (c .put-byte .ensures)
     (field-turn [] (c .before .before .next-number2 .ensures)
-    (field-turn (decimal (c .before .before .before .before .before .before .before .before .before .before .before .before .args .table) ∷ []) (c .before .before .before .before .next-word .ensures)
-    (field-turn (ascii "table" ∷ decimal (c .before .before .before .before .before .before .before .before .before .before .before .before .args .table) ∷ []) (c .before .before .before .before .before .before .before .next-number .ensures)
-    (line-starts (decimal (c .before .before .before .before .before .before .before .before .before .before .before .before .args .number) ∷ ascii "table" ∷ decimal (c .before .before .before .before .before .before .before .before .before .before .before .before .args .table) ∷ []) (c .before .before .before .before .before .before .before .before .before .put-text .ensures)))))
+    (field-turn table (named .next-word .ensures)
+    (field-turn (ascii "table" ∷ table) (numbered .next-number .ensures)
+    (line-starts (decimal (start .args .number) ∷ ascii "table" ∷ table) (numbered .before .before .put-text .ensures)))))
 
 pub refused-line-spec : {M : Type 1} → statement M
 refused-line-spec =

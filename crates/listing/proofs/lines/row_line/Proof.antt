@@ -43,7 +43,9 @@ shared-slice-read-next-cell : tie.Need-shared-slice-read-next-cell Inv-loop μ-l
 shared-slice-read-next-cell c = search needs
 
 next-cell-requires : tie.Need-next-cell-requires Inv-loop μ-loop
-next-cell-requires c κs = omega (arith, cell-length (getD (c .before .before .before .before .before .before .before .before .before .args .cells .now) (c .before .before .before .loop .i) 0))
+next-cell-requires c κs =
+    let turned = c .before .before .before in
+    omega (arith, cell-length (getD (turned .before .before .before .before .before .before .args .cells .now) (turned .loop .i) 0))
 
 add-i : tie.Need-add-i Inv-loop μ-loop
 add-i c = search needs
@@ -52,17 +54,21 @@ loop-less : tie.Need-loop-less Inv-loop μ-loop
 loop-less c = search needs
 
 loop-again : tie.Need-loop-again Inv-loop μ-loop
-loop-again c = (
-  omega arith,
-  omega (arith, cell-length (getD (c .before .before .before .before .before .before .before .before .before .before .args .cells .now) (c .before .before .before .before .loop .i) 0)),
-  fields-turn cellText (c .before .before .before .before .before .before .before .before .before .before .args .cells .now) (c .before .before .before .before .loop .i) (omega arith) (c .next-cell .ensures) (c .before .before .before .before .loop .inv .2),
-)
+loop-again c =
+    let turned = c .before .before .before .before in
+    let cells = turned .before .before .before .before .before .before .args .cells .now in (
+      omega arith,
+      omega (arith, cell-length (getD cells (turned .loop .i) 0)),
+      fields-turn cellText cells (turned .loop .i) (omega arith) (c .next-cell .ensures) (turned .loop .inv .2),
+    )
 
 put-byte-requires-2 : tie.Need-put-byte-requires-2 Inv-loop μ-loop
 put-byte-requires-2 c κs = omega arith
 
 returns-2 : tie.Need-returns-2 Inv-loop μ-loop
-returns-2 c = fields-end cellText (c .before .before .before .before .before .before .before .before .before .args .cells .now) (c .before .before .before .loop .i) (omega arith) (omega arith) (c .put-byte2 .ensures) (c .before .before .before .loop .inv .2)
+returns-2 c =
+    let turned = c .before .before .before in
+    fields-end cellText (turned .before .before .before .before .before .before .args .cells .now) (turned .loop .i) (omega arith) (omega arith) (c .put-byte2 .ensures) (turned .loop .inv .2)
 
 pub row-line-spec : {M : Type 1} → statement M
 row-line-spec =

@@ -1,6 +1,8 @@
 -- `title_line` meets its contract: what is written so far and the numbers that are left are the line.
-use Prim.Native.Nat.{_+_, _*_, _-_, _≤_}
-use mathlib.Core.List.{map}
+use Prim.Native.Nat.{ℕ, _+_, _*_, _-_, _≤_}
+use mathlib.Core.List.{List, map}
+use mir.Syntax.{w64}
+use mir.Val.{Fits}
 use native.Mathlib.Omega.{arith}
 use lib.ListN.{length, getD, drop}
 use Rattle.listing.specs.Text.{decimal, titleLine}
@@ -9,6 +11,10 @@ use Rattle.listing.proofs.Digits.{decimal-length}
 use borrow.Author.Needs.{needs}
 use Rattle.listing.proofs.lines.title_line.Statement.{statement}
 use Rattle.listing.proofs.lines.title_line.Tie as tie
+
+-- a number of 64 bits has at most twenty digits
+long : (numbers : List ℕ) (i : ℕ) → ((k : ℕ) → Fits w64 (getD numbers k 0)) → length (decimal (getD numbers i 0)) ≤ 20
+long numbers i fits = decimal-length 19 (getD numbers i 0) (omega (arith, fits i))
 
 abbrev Inv-loop : tie.InvT-loop
 Inv-loop line₀ title numbers at₀ i₀ line at i =
@@ -30,7 +36,9 @@ shared-slice-read-next-number : tie.Need-shared-slice-read-next-number Inv-loop 
 shared-slice-read-next-number c = search needs
 
 next-number-requires : tie.Need-next-number-requires Inv-loop μ-loop
-next-number-requires c κs = omega (arith, decimal-length 19 (getD (c .before .before .before .before .before .before .before .before .args .numbers .now) (c .before .before .before .loop .i) 0) (omega (arith, c .shared-slice-known3 .given (c .before .before .before .loop .i))))
+next-number-requires c κs =
+    let turned = c .before .before .before in
+    omega (arith, long (turned .before .before .before .before .before .args .numbers .now) (turned .loop .i) (c .shared-slice-known3 .given))
 
 add-i : tie.Need-add-i Inv-loop μ-loop
 add-i c = search needs
@@ -39,17 +47,21 @@ loop-less : tie.Need-loop-less Inv-loop μ-loop
 loop-less c = search needs
 
 loop-again : tie.Need-loop-again Inv-loop μ-loop
-loop-again c = (
-  omega arith,
-  omega (arith, decimal-length 19 (getD (c .before .before .before .before .before .before .before .before .before .args .numbers .now) (c .before .before .before .before .loop .i) 0) (omega (arith, c .before .shared-slice-known3 .given (c .before .before .before .before .loop .i)))),
-  fields-turn decimal (c .before .before .before .before .before .before .before .before .before .args .numbers .now) (c .before .before .before .before .loop .i) (omega arith) (c .next-number .ensures) (c .before .before .before .before .loop .inv .2),
-)
+loop-again c =
+    let turned = c .before .before .before .before in
+    let numbers = turned .before .before .before .before .before .args .numbers .now in (
+      omega arith,
+      omega (arith, long numbers (turned .loop .i) (c .before .shared-slice-known3 .given)),
+      fields-turn decimal numbers (turned .loop .i) (omega arith) (c .next-number .ensures) (turned .loop .inv .2),
+    )
 
 put-byte-requires : tie.Need-put-byte-requires Inv-loop μ-loop
 put-byte-requires c κs = omega arith
 
 returns : tie.Need-returns Inv-loop μ-loop
-returns c = fields-end decimal (c .before .before .before .before .before .before .before .before .args .numbers .now) (c .before .before .before .loop .i) (omega arith) (omega arith) (c .put-byte .ensures) (c .before .before .before .loop .inv .2)
+returns c =
+    let turned = c .before .before .before in
+    fields-end decimal (turned .before .before .before .before .before .args .numbers .now) (turned .loop .i) (omega arith) (omega arith) (c .put-byte .ensures) (turned .loop .inv .2)
 
 pub title-line-spec : {M : Type 1} → statement M
 title-line-spec =

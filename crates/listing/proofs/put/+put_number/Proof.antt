@@ -95,7 +95,9 @@ put-number-put-byte-requires-2 : (t : ℕ) → put-number-lts.Need-put-byte-requ
   put-number-below t,
   put-number.Post,
 ) (put-number-at t) put-number.Post
-put-number-put-byte-requires-2 t c κs = omega (arith, last-length _ (c .before .before .before .before .before .if1 .left), c .before .before .before .put-number .ensures .ends, c .before .before .before .put-number .kept .0)
+put-number-put-byte-requires-2 t c κs =
+    let called = c .before .before .before in
+    omega (arith, last-length _ (called .before .before .if1 .left), called .put-number .ensures .ends, called .put-number .kept .0)
 
 put-number-same-length-2 : (t : ℕ) → put-number-lts.Need-same-length-2 (
   put-byte-reads.Asked,
@@ -112,7 +114,8 @@ put-number-returns-2 : (t : ℕ) → put-number-lts.Need-returns-2 (
   put-number.Post,
 ) (put-number-at t) put-number.Post
 put-number-returns-2 t c =
-    as-written (sym (decimal-last _ (c .before .before .before .before .before .before .before .before .if1 .left))) (then-written (c .before .before .before .before .before .before .put-number .ensures) (c .before .before .put-byte2 .ensures))
+    let called = c .before .before .before .before .before .before in
+    as-written (sym (decimal-last _ (called .before .before .if1 .left))) (then-written (called .put-number .ensures) (c .before .before .put-byte2 .ensures))
 
 pub +put-number-spec : {M : Type 1} → statement M
 +put-number-spec = close μ-put-number λ t. put-number-lts.spec (

@@ -21,10 +21,11 @@ same-length : tie.Need-same-length
 same-length c = search needs
 
 returns-2 : tie.Need-returns-2
-returns-2 c = (
-  as-written (sym (mark-text _ _ (c .before .before .before .before .before .before .before .before .if1 .left))) (then-written (c .before .before .before .before .before .before .put-number .ensures) (c .before .before .put-byte .ensures)),
-  omega (arith, decimal-length 2 (c .before .before .before .before .before .before .before .before .before .before .args .position) (omega arith)),
-)
+returns-2 c =
+    let chosen = c .before .before .before .before .before .before .before .before in (
+      as-written (sym (mark-text _ _ (chosen .if1 .left))) (then-written (c .before .before .before .before .before .before .put-number .ensures) (c .before .before .put-byte .ensures)),
+      omega (arith, decimal-length 2 (chosen .before .before .args .position) (omega arith)),
+    )
 
 pub put-mark-spec : {M : Type 1} → statement M
 put-mark-spec =

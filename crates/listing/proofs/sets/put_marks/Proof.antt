@@ -22,11 +22,11 @@ loop-holds : tie.Need-loop-holds Inv-loop μ-loop
 unfolding listed marksIn
 loop-holds c = (omega arith, omega arith, omega arith, none-written _ _)
 
-shr-put-mark : tie.Need-shr-put-mark Inv-loop μ-loop
-shr-put-mark c = omega arith
-
 cast-put-mark : tie.Need-cast-put-mark Inv-loop μ-loop
 cast-put-mark c = omega arith
+
+shr-put-mark : tie.Need-shr-put-mark Inv-loop μ-loop
+shr-put-mark c = omega arith
 
 add-put-mark : tie.Need-add-put-mark Inv-loop μ-loop
 add-put-mark c = omega arith
@@ -41,12 +41,13 @@ loop-less : tie.Need-loop-less Inv-loop μ-loop
 loop-less c = omega arith
 
 loop-again : tie.Need-loop-again Inv-loop μ-loop
-loop-again c = (
-  omega arith,
-  omega arith,
-  omega arith,
-  marks-turn (c .before .before .before .before .before .loop .k) _ _ _ (and-mask (c .before .before .before .before .before .before .before .args .word / 2 ^ c .before .before .before .before .before .loop .k) 1) (c .before .before .before .before .before .loop .inv .3) (c .before .before .put-mark .ensures .0),
-)
+loop-again c =
+    let turned = c .before .before .before .before .before in (
+      omega arith,
+      omega arith,
+      omega arith,
+      marks-turn (turned .loop .k) _ _ _ (and-mask (turned .before .before .args .word / 2 ^ turned .loop .k) 1) (turned .loop .inv .3) (c .before .before .put-mark .ensures .0),
+    )
 
 same-length : tie.Need-same-length Inv-loop μ-loop
 same-length c = c .before .loop .inv .2
@@ -61,8 +62,8 @@ put-marks-spec =
     Inv-loop
     μ-loop
     loop-holds
-    shr-put-mark
     cast-put-mark
+    shr-put-mark
     add-put-mark
     put-mark-requires
     add-k

@@ -44,11 +44,12 @@ loop-less : tie.Need-loop-less Inv-loop μ-loop
 loop-less c = search needs
 
 loop-again : tie.Need-loop-again Inv-loop μ-loop
-loop-again c = (
-  omega arith,
-  omega arith,
-  record-turn (c .before .before .before .before .before .before .args .set .now) (c .before .before .before .before .loop .i) (omega arith) (c .before .before .before .before .loop .inv .2) (c .put-marks .ensures .0),
-)
+loop-again c =
+    let turned = c .before .before .before .before in (
+      omega arith,
+      omega arith,
+      record-turn (turned .before .before .args .set .now) (turned .loop .i) (omega arith) (turned .loop .inv .2) (c .put-marks .ensures .0),
+    )
 
 put-byte-requires : tie.Need-put-byte-requires Inv-loop μ-loop
 put-byte-requires c κs = search needs
@@ -66,13 +67,21 @@ next-number-requires : tie.Need-next-number-requires Inv-loop μ-loop
 next-number-requires c κs = omega (arith, decimal-length 9 (c .low-bits .result) (omega (arith, c .low-bits .ensures)))
 
 put-byte-requires-2 : tie.Need-put-byte-requires-2 Inv-loop μ-loop
-put-byte-requires-2 c κs = omega (arith, decimal-length 9 (c .before .before .low-bits .result) (omega (arith, c .before .before .low-bits .ensures)))
+put-byte-requires-2 c κs =
+    let place = c .before .before .low-bits in
+    omega (arith, decimal-length 9 (place .result) (omega (arith, place .ensures)))
 
 returns : tie.Need-returns Inv-loop μ-loop
 returns c =
-    line-ends (omega (arith, decimal-length 9 (c .before .before .before .low-bits .result) (omega (arith, c .before .before .before .low-bits .ensures)))) (c .put-byte2 .ensures)
-    (field-turn [] (as-written (ap (λ (n : ℕ). 32 ∷ decimal n) (c .before .before .before .low-bits .ensures)) (c .before .before .next-number .ensures))
-    (set-starts (positionsIn 0 (take 3 (c .before .before .before .before .before .before .before .before .before .before .before .args .set .now))) (getD (c .before .before .before .before .before .before .before .before .before .before .before .args .set .now) 3 0 % 2 ^ 30) (record-ends (c .before .before .before .before .before .before .before .before .before .before .before .args .set .now) (c .before .before .before .before .before .before .before .before .before .loop .i) 3 (omega arith) (c .before .before .before .before .before .before .before .before .before .loop .inv .2)) (c .before .before .before .before .before .before .put-byte .ensures)))
+    let turned = c .before .before .before .before .before .before .before .before .before in
+    let start = c .before .before .before .before .before .before .before .before .before .before .before in
+    let set = start .args .set .now in
+    let place = c .before .before .before .low-bits in
+    line-ends (omega (arith, decimal-length 9 (place .result) (omega (arith, place .ensures)))) (c .put-byte2 .ensures)
+    (field-turn [] (as-written (ap (λ (n : ℕ). 32 ∷ decimal n) (place .ensures)) (c .before .before .next-number .ensures))
+    (set-starts (positionsIn 0 (take 3 set)) (getD set 3 0 % 2 ^ 30)
+    (record-ends set (turned .loop .i) 3 (omega arith) (turned .loop .inv .2))
+    (c .before .before .before .before .before .before .put-byte .ensures)))
 
 pub set-line-spec : {M : Type 1} → statement M
 set-line-spec =
