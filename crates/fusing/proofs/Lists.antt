@@ -11,6 +11,7 @@ use lib.Pow.{shl-exact}
 use lib.Seq.{take-suc, take-all, paste, drop-paste, getD-drop}
 use Rattle.definitions.specs.Image.{rowsIn}
 use Rattle.definitions.specs.SetList.{bits}
+use Rattle.patterns.proofs.Patterns.{bit-small}
 use Rattle.lists.proofs.Flat.{rows-length, rows-take, rows-at}
 
 pub map-at : {A B : Type 0} (f : A → B) (d : A) (e : B) (l : List A) (k : ℕ) → k < length l → getD (map f l) k e ≡ f (getD l k d)
@@ -33,10 +34,6 @@ rows-snoc c n w =
     ∙ ap₂ (λ (t : List (List ℕ)) (u : List ℕ). t ++ (u ∷ [])) (rows-take c n (n + 1) w (omega arith)) (rows-at c (n + 1) n w (omega arith))
 
 -- ---- marks as the digits of a number
-
-pub bit-small : (m : Bool) → cond m 1 0 < 2
-bit-small true = omega arith
-bit-small false = omega arith
 
 pub bits-small : (s : List Bool) → bits s < 2 ^ length s
 unfolding bits

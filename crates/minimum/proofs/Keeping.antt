@@ -2,12 +2,12 @@
 use mathlib.Core.Path.{_≡_, refl, sym, _∙_, ap, ap₂}
 use mathlib.Core.Bool.{Bool, true, false, not}
 use mathlib.Core.List.{List, [], _∷_, _++_, map-append}
-use Prim.Native.Nat.{ℕ, _+_, _-_, _*_, _<_, _≤_, _^_}
-use native.Mathlib.Nat.{add-mul, one-mul, mul-le-mul-left, mul-le-mul-right}
+use Prim.Native.Nat.{ℕ, _+_, _*_, _<_, _≤_}
 use native.Mathlib.Numerals.{add-one}
 use native.Mathlib.Omega.{arith}
 use lib.ListN.{length, set, take}
 use lib.Seq.{take-suc-set, take-all}
+use Rattle.definitions.specs.Limits.{maxUnionRows}
 use Rattle.definitions.specs.Lists.{any, keep, sumBelow}
 use Rattle.definitions.specs.Image.{rowsIn}
 use Rattle.definitions.specs.MinimumUnion.{subsumes, minimumRows, pairsTried}
@@ -26,41 +26,32 @@ stays rows t = not (any (λ s. subsumes s t) rows)
 
 -- of the first k rows, those that stay are named by the first m numbers, and so many pairs were tried
 pub record KeptTo (c n : ℕ) (w numbers : List ℕ) (m pairs k : ℕ) : Type 0 where
-  pub few : m ≤ k
+  pub count : m ≤ k
   pub below : Below n (take m numbers)
   pub rows : rowsAt c w (take m numbers) ≡ keep (stays (rowsIn c n w)) (take k (rowsIn c n w))
   pub tried : pairs ≡ sumBelow k (triesAt (rowsIn c n w))
-  pub bound : pairs ≤ k * (n - 1)
+  pub bound : pairs ≤ k * maxUnionRows
 
 pub kept-none : (c n : ℕ) (w numbers : List ℕ) → KeptTo c n w numbers 0 0 0
 unfolding keep sumBelow
-kept-none c n w numbers = record { few = omega arith; below = tt; rows = refl; tried = refl; bound = omega arith }
+kept-none c n w numbers = record { count = omega arith; below = tt; rows = refl; tried = refl; bound = omega arith }
 
 module _ {c n : ℕ} {w numbers : List ℕ} {m pairs k : ℕ} (inv : KeptTo c n w numbers m pairs k) where
   -- row k has been tried
-  module _ (more : k < n) {subsumed : Bool} {p : ℕ} (told : subsumed ≡ isSubsumed (rowsIn c n w) k) (e : p ≡ triesAt (rowsIn c n w) k) (fewer : p < n) where
+  module _ (few : n ≤ maxUnionRows) (more : k < n) {subsumed : Bool} {p : ℕ} (told : subsumed ≡ isSubsumed (rowsIn c n w) k) (e : p ≡ triesAt (rowsIn c n w) k) (fewer : p < n) where
     sum-more : pairs + p ≡ sumBelow (k + 1) (triesAt (rowsIn c n w))
     unfolding sumBelow
     sum-more = ap₂ _+_ (inv .tried) e ∙ rw (add-one k)
 
-    bound-more : pairs + p ≤ (k + 1) * (n - 1)
-    bound-more = omega (arith, inv .bound, add-mul k 1 (n - 1), one-mul (n - 1))
-
-    -- the count of pairs is a machine number
-    pub pairs-fit : n ≤ 2 ^ 32 → pairs + p ≤ 2 ^ 32 * (2 ^ 32 - 1)
-    pairs-fit h =
-        let k-rows : (k + 1) * (n - 1) ≤ n * (n - 1) = mul-le-mul-right (n - 1) (omega arith) in
-        let n-rows : n * (n - 1) ≤ 2 ^ 32 * (n - 1) = mul-le-mul-right (n - 1) h in
-        let others : n - 1 ≤ 2 ^ 32 - 1 = omega arith in
-        let most : 2 ^ 32 * (n - 1) ≤ 2 ^ 32 * (2 ^ 32 - 1) = mul-le-mul-left (2 ^ 32) others in
-        omega (arith, bound-more)
+    bound-more : pairs + p ≤ (k + 1) * maxUnionRows
+    bound-more = omega (arith, inv .bound)
 
     within : k < length (rowsIn c n w)
     within = omega (arith, rows-length c n w)
 
     pub subsumed-left : subsumed ≡ true → KeptTo c n w numbers m (pairs + p) (k + 1)
     subsumed-left s = record {
-      few = omega (arith, inv .few);
+      count = omega (arith, inv .count);
       below = inv .below;
       rows = inv .rows ∙ sym (keep-left (stays (rowsIn c n w)) [] (rowsIn c n w) k within (ap not (sym told ∙ s)));
       tried = sum-more;
@@ -69,10 +60,10 @@ module _ {c n : ℕ} {w numbers : List ℕ} {m pairs k : ℕ} (inv : KeptTo c n 
 
     pub unsubsumed-kept : n ≤ length numbers → subsumed ≡ false → KeptTo c n w (set numbers m k) (m + 1) (pairs + p) (k + 1)
     unsubsumed-kept room s =
-        let f = inv .few in
+        let f = inv .count in
         let t : take (m + 1) (set numbers m k) ≡ take m numbers ++ (k ∷ []) = rw (add-one m) (take-suc-set numbers m k (omega arith)) in
         record {
-          few = omega arith;
+          count = omega arith;
           below = rw t (below-snoc n k (take m numbers) (inv .below) more);
           rows = ap (rowsAt c w) t
               ∙ map-append (rowAt c w) (take m numbers) (k ∷ [])

@@ -1,6 +1,6 @@
 -- The trying of row k of a table: what a column more says of covering, what a row more says of subsuming, and how the trying ends.
 -- Assumes nothing.
-use mathlib.Core.Path.{_≡_, sym, _∙_, ap, ap₂}
+use mathlib.Core.Path.{_≡_, sym, _∙_, ap, ap₂, subst}
 use mathlib.Core.Bool.{Bool, true, false, cond, not, _&&_, _||_}
 use mathlib.Core.Logic.{⊎-elim}
 use mathlib.Core.List.{List, []}
@@ -8,7 +8,7 @@ use Prim.Native.Nat.{ℕ, _+_, _-_, _*_, _<_, _≤_}
 use native.Mathlib.Nat.{eq-or-lt-of-le}
 use native.Mathlib.Numerals.{add-one}
 use native.Mathlib.Omega.{arith}
-use lib.ListN.{length, getD, drop, length-take, length-drop, length-map, List·getD-map}
+use lib.ListN.{length, getD, take, drop, length-take, length-drop, length-map, List·getD-map}
 use lib.Seq.{getD-take, getD-drop, length-take-le}
 use lib.Dec.{eqb, ltb}
 use borrow.Author.Tests.{lt-ltb, le-ltb, ltb-true, ltb-false}
@@ -17,10 +17,13 @@ use Rattle.definitions.specs.Image.{rowsIn}
 use Rattle.definitions.specs.MinimumUnion.{filled, covers, subsumes}
 use Rattle.definitions.proofs.Bools.{bool-cases, clash, not-so}
 use Rattle.definitions.proofs.Lists.{stands-get, stands-at, any-of, any-none, below-cases}
+use Rattle.definitions.proofs.Rows.{filled-cell, covers-at}
 use Rattle.definitions.proofs.Subsumption.{subsumes-is, subsumes-self}
-use Rattle.lists.proofs.Flat.{rows-length, rows-at, row-fits}
+use Rattle.lists.proofs.Flat.{rows-length, rows-at, row-fits, part-row}
 use Rattle.lists.proofs.Walks.{next, end}
-use Rattle.minimum.specs.Trying.{Counted, isSubsumed, triesAt}
+use Rattle.cliques.specs.Bits.{has}
+use Rattle.minimum.specs.Trying.{isSubsumed, triesAt}
+use Rattle.minimum.specs.Marks.{MarkedFor, Candidates, NextOf, Prepared}
 use Rattle.minimum.proofs.OtherRows.{Passed, others-all, others-before, others-after}
 
 -- ---- how far the trying of row k has come
@@ -62,7 +65,7 @@ three-cases k j f g h =
 
 -- ---- the turns
 
-module _ {width n : ℕ} {w counts : List ℕ} {k : ℕ} (own : k < n) (counted : Counted width n w counts) where
+module _ {width n : ℕ} {w counts marks : List ℕ} {k : ℕ} (own : k < n) (ready : Prepared width n w counts marks) where
   abbrev rows : List (List ℕ)
   rows = rowsIn width n w
 
@@ -71,15 +74,15 @@ module _ {width n : ℕ} {w counts : List ℕ} {k : ℕ} (own : k < n) (counted 
 
   pub counts-room : n ≤ length counts
   counts-room =
-      let e = ap length (counted .filled-cells) ∙ length-map rows filled ∙ rows-length width n w in
+      let e = ap length (ready .counted .filled-cells) ∙ length-map rows filled ∙ rows-length width n w in
       omega (arith, e, length-take n counts)
 
   count-at : (j : ℕ) → j < n → getD counts j 0 ≡ filled (at j)
   unfolding filled
-  count-at j h = sym (getD-take n counts j 0 h) ∙ ap (λ (l : List ℕ). getD l j 0) (counted .filled-cells) ∙ List·getD-map filled rows j []
+  count-at j h = sym (getD-take n counts j 0 h) ∙ ap (λ (l : List ℕ). getD l j 0) (ready .counted .filled-cells) ∙ List·getD-map filled rows j []
 
   pub row-end : (j : ℕ) → j < n → j * width + width ≤ length w
-  row-end j h = omega (arith, counted .fits, row-fits width n j h)
+  row-end j h = omega (arith, ready .counted .fits, row-fits width n j h)
 
   row-long : (j : ℕ) → j < n → length (at j) ≡ width
   row-long j h =
@@ -110,6 +113,31 @@ module _ {width n : ℕ} {w counts : List ℕ} {k : ℕ} (own : k < n) (counted 
 
   within : k < length rows
   within = omega (arith, rows-length width n w)
+
+  -- a row that covers row k is a candidate
+  covering-held : (set at-k : ℕ) → at-k ≡ k * width → Candidates (take (at-k + width - at-k) (drop at-k w)) marks set
+      → (i : ℕ) → i < n → covers (at i) (at k) ≡ true → has set i ≡ true
+  covering-held set at-k here held i h e =
+      let few = ready .few in
+      let part : take (at-k + width - at-k) (drop at-k w) ≡ at k =
+      part-row width at-k w ∙ ap (λ (x : ℕ). take width (drop x w)) here ∙ sym (rows-at width n k w own) in
+      let own-held : Candidates (at k) marks set = subst (λ (r : List ℕ). Candidates r marks set) part held in
+      own-held .held i (omega arith) (λ c g some.
+      let c-in : c < width = omega (arith, row-long k own) in
+      ⊎-elim
+      (λ q. absurd (filled-cell (getD (at k) c 0) some q))
+      (λ q. subst (λ (x : ℕ). MarkedFor marks c x i) (sym (cell-at i c h c-in) ∙ q) (ready .marked .every i c h c-in))
+      (covers-at (at i) (at k) e c))
+
+  -- the rows before the next candidate are passed
+  pub pass-skipped : (looked set at-k j : ℕ) → at-k ≡ k * width → Candidates (take (at-k + width - at-k) (drop at-k w)) marks set
+      → NextOf set looked n j → PassedTo width n w k looked → PassedTo width n w k j
+  pass-skipped looked set at-k j here held next p i h =
+      bool-cases (ltb i looked)
+      (λ e. p i (ltb-true i looked e))
+      (λ e. not-so (subsumes (at i) (at k)) (λ q.
+      let r = next .within in
+      clash (covering-held set at-k here held i (omega arith) (subsumes-is (at i) (at k) .0 q .1)) (next .skipped i (ltb-false i looked e) h)))
 
   -- no row before j subsumes row k
   module _ (j : ℕ) (p : PassedTo width n w k j) where

@@ -1,2 +1,3 @@
 -- The trying of minimum union.
 pub mod Trying
+pub mod Marks

@@ -5,10 +5,9 @@ use mathlib.Core.Bool.{Bool, true, false, cond}
 use mathlib.Core.List.{List, [], _∷_, _++_, map, flatten}
 use Prim.Native.Nat.{ℕ, suc, _+_, _-_, _*_, _/_, _%_, _^_, _<_, _≤_}
 use native.Mathlib.Nat.{pow-suc, lt-of-lt-of-le, zero-add, add-mul, one-mul}
-use native.Mathlib.Numerals.{add-one}
 use native.Mathlib.Omega.{arith}
 use lib.ListN.{length, getD, take, drop, set, length-drop, length-map, drop-of-length-le, List·getD-map}
-use lib.Seq.{drop-cons, take-all, length-take-le, getD-take, paste, paste-suc}
+use lib.Seq.{drop-cons, take-all, length-take-le, getD-take}
 use lib.Bits.{bitOr, or-shifted}
 use lib.Pow.{pow-mono}
 use lib.Count.{ones, ones-step}
@@ -18,6 +17,8 @@ use Rattle.definitions.specs.Image.{rowsIn}
 use Rattle.definitions.specs.MinimumUnion.{filled}
 use Rattle.definitions.specs.SetList.{bits}
 use Rattle.lists.proofs.Flat.{rows-length, rows-at, row-fits, part-row, words-rows}
+use Rattle.lists.proofs.Walks.{next}
+use Rattle.lists.proofs.Pastes.{Pasted, paste-turn}
 use Rattle.patterns.specs.Pattern.{patternOf}
 
 -- 1 for a filled cell, 0 for the empty cell
@@ -69,9 +70,8 @@ pub count-turn : (w : List ℕ) (end i total b : ℕ) → end ≤ length w → i
     → total + filled (drop i (take end w)) ≡ filled (take end w) → total + b + filled (drop (i + 1) (take end w)) ≡ filled (take end w)
 unfolding filled
 count-turn w end i total b h k e inv =
-    let cons : drop i (take end w) ≡ getD (take end w) i 0 ∷ drop (i + 1) (take end w) = rw (add-one, drop-cons (take end w) i 0 (omega (arith, length-take-le end w h))) in
-    let next : filled (drop i (take end w)) ≡ bitOf (getD (take end w) i 0) + filled (drop (i + 1) (take end w)) = ap filled cons in
-    omega (arith, next, e, ap bitOf (getD-take end w i 0 k))
+    let more : filled (drop i (take end w)) ≡ bitOf (getD (take end w) i 0) + filled (drop (i + 1) (take end w)) = ap filled (next 0 (take end w) i (omega (arith, length-take-le end w h))) in
+    omega (arith, more, e, ap bitOf (getD-take end w i 0 k))
 
 -- no cell is left, and the words of the rows are counted
 pub count-ends : (c n total : ℕ) (w : List ℕ) → n * c ≤ length w → total + filled (drop (n * c) (take (n * c) w)) ≡ filled (take (n * c) w)
@@ -93,16 +93,15 @@ module _ (c n i at : ℕ) (w : List ℕ) (more : i < n) (here : at ≡ i * c) wh
   row-here : take (at + c - at) (drop at w) ≡ take c (drop (i * c) w)
   row-here = part-row c at w ∙ ap (λ (k : ℕ). take c (drop k w)) here
 
-  pub patterns-turn : (found now : List ℕ) (p : ℕ) → n ≤ length found → now ≡ paste found 0 (map patternOf (rowsIn c n w)) i
-      → p ≡ patternOf (take (at + c - at) (drop at w)) → set now i p ≡ paste found 0 (map patternOf (rowsIn c n w)) (i + 1)
+  pub patterns-turn : (found cur : List ℕ) (p : ℕ) → n ≤ length found → Pasted found 0 (map patternOf (rowsIn c n w)) i cur
+      → p ≡ patternOf (take (at + c - at) (drop at w)) → Pasted found 0 (map patternOf (rowsIn c n w)) (i + 1) (set cur i p)
   unfolding patternOf bits
-  patterns-turn found now p room inv e =
+  patterns-turn found cur p room inv e =
       let l : length (map patternOf (rowsIn c n w)) ≡ n = length-map (rowsIn c n w) patternOf ∙ rows-length c n w in
-      let entry : p ≡ getD (map patternOf (rowsIn c n w)) i 0 =
-      e ∙ ap patternOf (row-here ∙ sym (rows-at c n i w more)) ∙ sym (List·getD-map patternOf (rowsIn c n w) i []) in
-      rw (add-one, entry, inv) (ap (λ (k : ℕ). set (paste found 0 (map patternOf (rowsIn c n w)) i) k (getD (map patternOf (rowsIn c n w)) i 0)) (sym (zero-add i)) ∙ paste-suc found 0 (map patternOf (rowsIn c n w)) i 0 (omega arith) (omega arith))
+      paste-turn found 0 (map patternOf (rowsIn c n w)) i i cur 0 p inv (sym (zero-add i)) (omega arith) (omega arith)
+      (e ∙ ap patternOf (row-here ∙ sym (rows-at c n i w more)) ∙ sym (List·getD-map patternOf (rowsIn c n w) i []))
 
-pub patterns-end : (c n : ℕ) (w found : List ℕ) → paste found 0 (map patternOf (rowsIn c n w)) n ≡ map patternOf (rowsIn c n w) ++ drop n found
-patterns-end c n w found =
+pub patterns-end : (c n : ℕ) (w found cur : List ℕ) → Pasted found 0 (map patternOf (rowsIn c n w)) n cur → cur ≡ map patternOf (rowsIn c n w) ++ drop n found
+patterns-end c n w found cur p =
     let l : length (map patternOf (rowsIn c n w)) ≡ n = length-map (rowsIn c n w) patternOf ∙ rows-length c n w in
-    rw (zero-add, take-all n (map patternOf (rowsIn c n w)) (omega arith))
+    p .words ∙ rw (zero-add, take-all n (map patternOf (rowsIn c n w)) (omega arith))

@@ -2,31 +2,32 @@
 use borrow.Author.Needs.{needs}
 use Prim.Native.Nat.{_-_, _≤_}
 use mathlib.Core.Path.{_≡_, refl, _∙_}
+use native.Mathlib.Omega.{arith}
 use lib.ListN.{length, length-set}
-use Rattle.minimum.proofs.Keeping.{KeptTo, kept-none, pairs-fit, subsumed-left, unsubsumed-kept, kept-rows, kept-pairs}
+use Rattle.definitions.specs.Limits.{maxUnionRows}
+use Rattle.minimum.proofs.Keeping.{KeptTo, kept-none, subsumed-left, unsubsumed-kept, kept-rows, kept-pairs}
 use Rattle.minimum.proofs.keep_rows.Statement.{statement}
 use Rattle.minimum.proofs.keep_rows.Tie as tie
 
 abbrev Inv-loop : tie.InvT-loop
-Inv-loop cells counts n width kept₀ rows₀ pairs₀ k₀ kept rows pairs k = (k ≤ n) × (length kept ≡ length kept₀) × KeptTo width n cells kept rows pairs k
+Inv-loop cells counts marks n width kept₀ rows₀ pairs₀ k₀ kept rows pairs k = (k ≤ n) × (length kept ≡ length kept₀) × KeptTo width n cells kept rows pairs k
 
 abbrev μ-loop : tie.MeasureT-loop
-μ-loop cells counts n width kept₀ rows₀ pairs₀ k₀ kept rows pairs k = n - k
+μ-loop cells counts marks n width kept₀ rows₀ pairs₀ k₀ kept rows pairs k = n - k
+
+few : (c : tie.Start Inv-loop μ-loop) → c .args .n ≤ maxUnionRows
+few c = c .pre .0 .few
 
 loop-holds : tie.Need-loop-holds Inv-loop μ-loop
 loop-holds c =
-    let a = c .before .before .before .args in
+    let a = c .before .before .before .before .args in
     (search needs, refl, kept-none (a .width) (a .n) (a .cells .now) (a .kept .now))
 
 try-row-requires : tie.Need-try-row-requires Inv-loop μ-loop
 try-row-requires c κs = search needs
 
 add-pairs : tie.Need-add-pairs Inv-loop μ-loop
-add-pairs c =
-    let t = c .before .try-row in
-    let l = c .before .before .before .loop in
-    let f = pairs-fit (l .inv .2) (search needs) (t .ensures .0) (t .ensures .1) (t .ensures .2) (search needs) in
-    search needs
+add-pairs c = let l = c .before .before .before .loop in omega (arith, l .inv .2 .bound, few (c .before .before .before .before .before .before .before .before), c .before .try-row .ensures .2)
 
 add-k : tie.Need-add-k Inv-loop μ-loop
 add-k c = search needs
@@ -38,10 +39,10 @@ loop-again : tie.Need-loop-again Inv-loop μ-loop
 loop-again c =
     let t = c .before .before .try-row in
     let l = c .before .before .before .before .loop in
-    (search needs, l .inv .1, subsumed-left (l .inv .2) (search needs) (t .ensures .0) (t .ensures .1) (t .ensures .2) (c .if1 .taken))
+    (search needs, l .inv .1, subsumed-left (l .inv .2) (few (c .before .before .before .before .before .before .before .before .before)) (search needs) (t .ensures .0) (t .ensures .1) (t .ensures .2) (c .if1 .taken))
 
 cast-kept : tie.Need-cast-kept Inv-loop μ-loop
-cast-kept c = search needs
+cast-kept c = omega (arith, few (c .before .before .before .before .before .before .before .before .before))
 
 mul-kept : tie.Need-mul-kept Inv-loop μ-loop
 mul-kept c = search needs
@@ -62,7 +63,7 @@ loop-again-2 : tie.Need-loop-again-2 Inv-loop μ-loop
 loop-again-2 c =
     let t = c .before .before .try-row in
     let l = c .before .before .before .before .loop in
-    (search needs, length-set (l .kept) (l .rows) (l .k) ∙ l .inv .1, unsubsumed-kept (l .inv .2) (search needs) (t .ensures .0) (t .ensures .1) (t .ensures .2) (search needs) (c .if1 .left))
+    (search needs, length-set (l .kept) (l .rows) (l .k) ∙ l .inv .1, unsubsumed-kept (l .inv .2) (few (c .before .before .before .before .before .before .before .before .before)) (search needs) (t .ensures .0) (t .ensures .1) (t .ensures .2) (search needs) (c .if1 .left))
 
 same-length : tie.Need-same-length Inv-loop μ-loop
 same-length c = c .before .loop .inv .1

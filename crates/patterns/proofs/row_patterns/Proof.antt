@@ -1,20 +1,20 @@
 -- `row_patterns` meets its contract. The loop's invariant: the patterns of the first i rows stand over the words found. Assumes nothing.
-use mathlib.Core.Path.{_≡_, refl, sym, _∙_, ap}
+use mathlib.Core.Path.{_≡_, sym, subst}
 use mathlib.Core.List.{map}
-use Prim.Native.Nat.{_-_, _*_, _≤_}
+use Prim.Native.Nat.{ℕ, _-_, _*_, _≤_}
 use native.Mathlib.Nat.{zero-mul}
 use native.Mathlib.Omega.{arith}
-use lib.ListN.{length, length-take, length-set}
-use lib.Seq.{paste, paste-zero}
+use lib.ListN.{length-take}
 use borrow.Author.Needs.{needs}
 use Rattle.definitions.specs.Image.{rowsIn}
+use Rattle.lists.proofs.Pastes.{Pasted, paste-none}
 use Rattle.patterns.specs.Pattern.{patternOf}
 use Rattle.patterns.proofs.Patterns.{row-ends, next-row, patterns-turn, patterns-end}
 use Rattle.patterns.proofs.row_patterns.Statement.{statement}
 use Rattle.patterns.proofs.row_patterns.Tie as tie
 
 abbrev Inv-loop : tie.InvT-loop
-Inv-loop cells n width patterns₀ i₀ at₀ patterns i at = (i ≤ n) × (at ≡ i * width) × (length patterns ≡ length patterns₀) × (patterns ≡ paste patterns₀ 0 (map patternOf (rowsIn width n cells)) i)
+Inv-loop cells n width patterns₀ i₀ at₀ patterns i at = (i ≤ n) × (at ≡ i * width) × Pasted patterns₀ 0 (map patternOf (rowsIn width n cells)) i patterns
 
 abbrev μ-loop : tie.MeasureT-loop
 μ-loop cells n width patterns₀ i₀ at₀ patterns i at = n - i
@@ -22,7 +22,7 @@ abbrev μ-loop : tie.MeasureT-loop
 loop-holds : tie.Need-loop-holds Inv-loop μ-loop
 loop-holds c =
     let a = c .before .before .args in
-    (search needs, sym (zero-mul (a .width)), refl, paste-zero (a .patterns .now) 0 (map patternOf (rowsIn (a .width) (a .n) (a .cells .now))))
+    (search needs, sym (zero-mul (a .width)), paste-none (a .patterns .now) 0 (map patternOf (rowsIn (a .width) (a .n) (a .cells .now))))
 
 add-next : tie.Need-add-next Inv-loop μ-loop
 add-next c =
@@ -70,20 +70,19 @@ loop-again c =
     let r = c .pattern in (
       search needs,
       next-row (a .width) (a .n) (l .i) (l .at) (a .cells .now) (search needs) (l .inv .1),
-      length-set (l .patterns) (l .i) (r .result) ∙ l .inv .2,
-      patterns-turn (a .width) (a .n) (l .i) (l .at) (a .cells .now) (search needs) (l .inv .1) (a .patterns .now) (l .patterns) (r .result) (search needs) (l .inv .3) (r .ensures .0),
+      patterns-turn (a .width) (a .n) (l .i) (l .at) (a .cells .now) (search needs) (l .inv .1) (a .patterns .now) (l .patterns) (r .result) (search needs) (l .inv .2) (r .ensures .0),
     )
 
 same-length : tie.Need-same-length Inv-loop μ-loop
-same-length c = c .before .loop .inv .2
+same-length c = c .before .loop .inv .2 .size
 
 returns : tie.Need-returns Inv-loop μ-loop
 returns c =
     let a = c .before .before .before .before .args in
     let l = c .before .loop in
     let e : l .i ≡ a .n = omega arith in
-    l .inv .3 ∙ ap (paste (a .patterns .now) 0 (map patternOf (rowsIn (a .width) (a .n) (a .cells .now)))) e
-    ∙ patterns-end (a .width) (a .n) (a .cells .now) (a .patterns .now)
+    patterns-end (a .width) (a .n) (a .cells .now) (a .patterns .now) (l .patterns)
+    (subst (λ (k : ℕ). Pasted (a .patterns .now) 0 (map patternOf (rowsIn (a .width) (a .n) (a .cells .now))) k (l .patterns)) e (l .inv .2))
 
 pub row-patterns-spec : {M : Type 1} → statement M
 row-patterns-spec =

@@ -1,12 +1,12 @@
 -- `write_rows` meets its contract. The loop's invariant: the words of the first k rows are written. Assumes nothing.
-use mathlib.Core.Path.{_≡_, refl, sym, _∙_, ap, ap₂}
-use mathlib.Core.List.{List, flatten}
+use mathlib.Core.Path.{_≡_, ap}
+use mathlib.Core.List.{flatten}
 use Prim.Native.Nat.{ℕ, _≤_, _+_, _-_, _*_}
 use native.Mathlib.Nat.{zero-mul, add-mul, one-mul}
 use native.Mathlib.Omega.{arith}
-use lib.ListN.{length, take, drop, length-take, length-drop}
-use lib.Seq.{paste, paste-zero}
+use lib.ListN.{length, take, length-take, length-drop}
 use borrow.Author.Needs.{needs}
+use Rattle.lists.proofs.Pastes.{Pasted, paste-none, paste-all}
 use Rattle.lists.proofs.Flat.{row-fits}
 use Rattle.rows.specs.Numbers.{rowsAt}
 use Rattle.rows.proofs.Numbers.{fit-named}
@@ -15,7 +15,7 @@ use Rattle.rows.proofs.write.write_rows.Statement.{statement}
 use Rattle.rows.proofs.write.write_rows.Tie as tie
 
 abbrev Inv-loop : tie.InvT-loop
-Inv-loop dst₀ at cells width order m k₀ to₀ dst k to = (k ≤ m) × (to ≡ at + k * width) × (length dst ≡ length dst₀) × (dst ≡ paste dst₀ at (flatten (rowsAt width cells (take m order))) (k * width))
+Inv-loop dst₀ at cells width order m k₀ to₀ dst k to = (k ≤ m) × (to ≡ at + k * width) × Pasted dst₀ at (flatten (rowsAt width cells (take m order))) (k * width) dst
 
 abbrev μ-loop : tie.MeasureT-loop
 μ-loop dst₀ at cells width order m k₀ to₀ dst k to = m - k
@@ -24,7 +24,7 @@ loop-holds : tie.Need-loop-holds Inv-loop μ-loop
 loop-holds c =
     let a = c .before .before .before .args in
     let z : 0 * a .width ≡ 0 = zero-mul (a .width) in
-    (search needs, omega arith, refl, paste-zero (a .dst .now) (a .at) (flatten (rowsAt (a .width) (a .cells .now) (take (a .m) (a .order .now)))) ∙ ap (paste (a .dst .now) (a .at) (flatten (rowsAt (a .width) (a .cells .now) (take (a .m) (a .order .now))))) (sym z))
+    (search needs, omega arith, rw z (paste-none (a .dst .now) (a .at) (flatten (rowsAt (a .width) (a .cells .now) (take (a .m) (a .order .now))))))
 
 mul-wide : tie.Need-mul-wide Inv-loop μ-loop
 mul-wide c = search needs
@@ -85,14 +85,10 @@ loop-again c =
     let l = c .before .before .before .before .before .before .before .before .loop in
     let a = c .before .before .before .before .before .before .before .before .before .before .before .before .args in
     let p = c .before .before .before .before .before .before .before .before .before .before .before .before .pre in
-    let s = flatten (rowsAt (a .width) (a .cells .now) (take (a .m) (a .order .now))) in
     let x = c .before .before .before .before .before .wide in (
       search needs,
       omega (arith, add-mul (l .k) 1 (a .width), one-mul (a .width)),
-      omega (arith, c .before .before .write-words .kept .0),
-      c .before .before .write-words .ensures
-          ∙ ap₂ (λ (d : List ℕ) (to : ℕ). paste d to (take (x .result * a .width + a .width - x .result * a .width) (drop (x .result * a .width) (a .cells .now))) (a .width)) (l .inv .3) (l .inv .1)
-          ∙ rows-turn (a .dst .now) (a .cells .now) (a .order .now) (a .at) (a .width) (a .m) (p .1) (search needs) (search needs) (l .k) (x .result) (search needs) (x .ensures),
+      rows-turn (a .dst .now) (a .cells .now) (a .order .now) (a .at) (a .width) (a .m) (p .1) (search needs) (search needs) (l .k) (x .result) (l .to) (l .dst) _ (search needs) (x .ensures) (l .inv .1) (l .inv .2) (c .before .before .write-words .ensures),
     )
 
 same-length : tie.Need-same-length Inv-loop μ-loop
@@ -103,7 +99,7 @@ returns c =
     let l = c .before .loop in
     let a = c .before .before .before .before .before .args in
     let e : l .k ≡ a .m = omega arith in
-    l .inv .3 ∙ ap (λ (k : ℕ). paste (a .dst .now) (a .at) (flatten (rowsAt (a .width) (a .cells .now) (take (a .m) (a .order .now)))) (k * a .width)) e
+    paste-all (a .dst .now) (a .at) (flatten (rowsAt (a .width) (a .cells .now) (take (a .m) (a .order .now)))) (l .k * a .width) (a .m * a .width) (l .dst) (l .inv .2) (ap (λ (k : ℕ). k * a .width) e)
 
 pub write-rows-spec : {M : Type 1} → statement M
 write-rows-spec =

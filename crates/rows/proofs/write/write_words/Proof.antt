@@ -1,23 +1,21 @@
 -- `write_words` meets its contract. The loop's invariant: the first i words are written. Assumes nothing.
-use mathlib.Core.Path.{_≡_, refl, sym, _∙_, ap}
-use mathlib.Core.List.{List}
-use Prim.Native.Nat.{ℕ, _+_, _-_, _≤_}
-use native.Mathlib.Numerals.{add-one}
+use mathlib.Core.Path.{refl}
+use Prim.Native.Nat.{_+_, _-_, _≤_}
 use native.Mathlib.Omega.{arith}
-use lib.ListN.{length, set, getD, length-set}
-use lib.Seq.{paste, paste-zero, paste-suc}
+use lib.ListN.{getD}
 use borrow.Author.Needs.{needs}
+use Rattle.lists.proofs.Pastes.{Pasted, paste-none, paste-turn, paste-all}
 use Rattle.rows.proofs.write.write_words.Statement.{statement}
 use Rattle.rows.proofs.write.write_words.Tie as tie
 
 abbrev Inv-loop : tie.InvT-loop
-Inv-loop dst₀ at words n i₀ dst i = (i ≤ n) × (dst ≡ paste dst₀ at words i) × (length dst ≡ length dst₀)
+Inv-loop dst₀ at words n i₀ dst i = (i ≤ n) × Pasted dst₀ at words i dst
 
 abbrev μ-loop : tie.MeasureT-loop
 μ-loop dst₀ at words n i₀ dst i = n - i
 
 loop-holds : tie.Need-loop-holds Inv-loop μ-loop
-loop-holds c = let a = c .args in (search needs, paste-zero (a .dst .now) (a .at) (a .words .now), refl)
+loop-holds c = (search needs, paste-none (c .args .dst .now) (c .args .at) (c .args .words .now))
 
 mul-dst : tie.Need-mul-dst Inv-loop μ-loop
 mul-dst c = search needs
@@ -43,13 +41,8 @@ loop-less c = search needs
 loop-again : tie.Need-loop-again Inv-loop μ-loop
 loop-again c =
     let l = c .before .before .loop in
-    let a = c .before .before .before .args in (
-      search needs,
-      ap (λ (x : List ℕ). set x (a .at + l .i) (getD (a .words .now) (l .i) 0)) (l .inv .1)
-          ∙ paste-suc (a .dst .now) (a .at) (a .words .now) (l .i) 0 (search needs) (search needs)
-          ∙ ap (paste (a .dst .now) (a .at) (a .words .now)) (sym (add-one (l .i))),
-      simp length-set (l .inv .2),
-    )
+    let a = c .before .before .before .args in
+    (search needs, paste-turn (a .dst .now) (a .at) (a .words .now) (l .i) (a .at + l .i) (l .dst) 0 (getD (a .words .now) (l .i) 0) (l .inv .1) refl (search needs) (search needs) refl)
 
 same-length : tie.Need-same-length Inv-loop μ-loop
 same-length c = search needs
@@ -58,8 +51,7 @@ returns : tie.Need-returns Inv-loop μ-loop
 returns c =
     let l = c .before .loop in
     let a = c .before .before .args in
-    let e : l .i ≡ a .n = omega arith in
-    l .inv .1 ∙ ap (λ (k : ℕ). paste (a .dst .now) (a .at) (a .words .now) k) e
+    paste-all (a .dst .now) (a .at) (a .words .now) (l .i) (a .n) (l .dst) (l .inv .1) (omega arith)
 
 pub write-words-spec : {M : Type 1} → statement M
 write-words-spec =

@@ -69,7 +69,7 @@ count-rows-requires c κs =
     let u = c .before .before .before .before .union-table in
     let f = cells-fit (s .args .a .now) (s .args .b .now) (u .result) (u .ensures) in
     let g = u .ensures .cell-words in
-    (u .ensures .few-columns, omega arith)
+    omega arith
 
 write-head-requires : tie.Need-write-head-requires
 write-head-requires c κs =

@@ -11,8 +11,8 @@ use Rattle.definitions.specs.MinimumUnion.{filled}
 use Rattle.lists.proofs.Pastes.{paste-none}
 use Rattle.patterns.proofs.Patterns.{row-ends, next-row}
 use Rattle.minimum.proofs.Counting.{CountsTo, counts-turn, counts-end}
-use Rattle.minimum.proofs.fill_counts.Statement.{statement}
-use Rattle.minimum.proofs.fill_counts.Tie as tie
+use Rattle.minimum.proofs.counts.fill_counts.Statement.{statement}
+use Rattle.minimum.proofs.counts.fill_counts.Tie as tie
 
 abbrev Inv-loop : tie.InvT-loop
 Inv-loop cells n width counts₀ i₀ at₀ counts i at = (i ≤ n) × (at ≡ i * width) × CountsTo width n cells counts₀ i counts

@@ -1,8 +1,8 @@
 -- `others` meets its contract. Assumes nothing.
 use borrow.Author.Needs.{needs}
 use borrow.Author.Tests.{lt-ltb, le-ltb}
-use Rattle.minimum.proofs.others.Statement.{statement}
-use Rattle.minimum.proofs.others.Tie as tie
+use Rattle.minimum.proofs.trial.others.Statement.{statement}
+use Rattle.minimum.proofs.trial.others.Tie as tie
 
 sub-result : tie.Need-sub-result
 sub-result c = search needs
