@@ -1,8 +1,8 @@
 -- The image of a table reads back as that table; the rows of an image that passes the questions have a cell for each of its columns; and
 -- an accepted pair has at most 64 rows in T. Assumes nothing.
-use mathlib.Core.Path.{_≡_, refl, _∙_, ap, ap₂}
+use mathlib.Core.Path.{_≡_, refl, sym, _∙_, ap, ap₂}
 use mathlib.Core.Logic.{inl, inr, ⊎-elim}
-use mathlib.Core.List.{List, [], _∷_, _++_, map, flatten}
+use mathlib.Core.List.{List, [], _∷_, _++_, map, flatten, append-nil, append-assoc}
 use Prim.Native.Nat.{ℕ, zero, suc, _+_, _*_, _^_, _<_, _≤_}
 use native.Mathlib.Nat.{suc-mul}
 use native.Mathlib.Omega.{arith}
@@ -22,7 +22,7 @@ use Rattle.definitions.proofs.Outcomes.{Accepted}
 header-columns : (r c : ℕ) → c < 2 ^ 5 → columnsOf (headerWord r c) ≡ c
 header-columns r c h = omega arith
 
-header-rows : (r c : ℕ) → r < 2 ^ 12 → c < 2 ^ 5 → rowsOf (headerWord r c) ≡ r
+pub header-rows : (r c : ℕ) → r < 2 ^ 12 → c < 2 ^ 5 → rowsOf (headerWord r c) ≡ r
 header-rows r c h g = omega arith
 
 ids-read : (ids : List ℕ) → ((id : ℕ) → Stands id ids → id < 2 ^ 16) → map idOf (map columnWord ids) ≡ ids
@@ -32,13 +32,17 @@ ids-read (x ∷ ids) f =
     let e : idOf (columnWord x) ≡ x = omega arith in
     ap₂ (λ (y : ℕ) (l : List ℕ). y ∷ l) e (ids-read ids (λ id g. f id (inr g)))
 
-rows-read : (c : ℕ) (rows : List (List ℕ)) → ((r : List ℕ) → Stands r rows → length r ≡ c) → rowsIn c (length rows) (flatten rows) ≡ rows
+rows-read : (c : ℕ) (rows : List (List ℕ)) (rest : List ℕ) → ((r : List ℕ) → Stands r rows → length r ≡ c)
+    → rowsIn c (length rows) (flatten rows ++ rest) ≡ rows
 unfolding flatten
-rows-read c [] f = refl
-rows-read c (r ∷ rows) f =
+rows-read c [] rest f = refl
+rows-read c (r ∷ rows) rest f =
     let e = f r (inl refl) in
-    ap₂ (λ (s : List ℕ) (l : List (List ℕ)). s ∷ l) (take-at r (flatten rows) c e)
-    (ap (rowsIn c (length rows)) (drop-at r (flatten rows) c e) ∙ rows-read c rows (λ s h. f s (inr h)))
+    let w : r ++ flatten rows ++ rest ≡ r ++ (flatten rows ++ rest) = append-assoc r (flatten rows) rest in
+    ap₂ (λ (s : List ℕ) (l : List (List ℕ)). s ∷ l) (ap (take c) w ∙ take-at r (flatten rows ++ rest) c e)
+    (ap (λ (l : List ℕ). rowsIn c (length rows) (drop c l)) w
+    ∙ ap (rowsIn c (length rows)) (drop-at r (flatten rows ++ rest) c e)
+    ∙ rows-read c rows rest (λ s h. f s (inr h)))
 
 module _ (ids : List ℕ) (rows : List (List ℕ)) (few : length ids < 2 ^ 5) where
   image-columns : columnCount (imageOf ids rows) ≡ length ids
@@ -52,16 +56,23 @@ module _ (ids : List ℕ) (rows : List (List ℕ)) (few : length ids < 2 ^ 5) wh
       ∙ ap (map idOf) (take-at (map columnWord ids) (flatten rows) (length ids) (length-map ids columnWord))
       ∙ ids-read ids f
 
-  pub image-rows : length rows < 2 ^ 12 → ((r : List ℕ) → Stands r rows → length r ≡ length ids) → imageRows (imageOf ids rows) ≡ rows
+  -- the rows of an image at the front of a longer buffer
+  pub image-rows-front : (rest : List ℕ) → length rows < 2 ^ 12 → ((r : List ℕ) → Stands r rows → length r ≡ length ids) → imageRows (imageOf ids rows ++ rest) ≡ rows
   unfolding imageOf
-  image-rows g f =
-      let count : rowCount (imageOf ids rows) ≡ length rows = header-rows (length rows) (length ids) g few in
-      let past : 1 + columnCount (imageOf ids rows) ≡ suc (length ids) = omega (arith, image-columns) in
-      let cells : cellWords (imageOf ids rows) ≡ flatten rows =
-      ap (λ (n : ℕ). drop n (imageOf ids rows)) past ∙ drop-at (map columnWord ids) (flatten rows) (length ids) (length-map ids columnWord) in
-      ap₂ (λ (c n : ℕ). rowsIn c n (cellWords (imageOf ids rows))) image-columns count
+  image-rows-front rest g f =
+      let columns : columnCount (imageOf ids rows ++ rest) ≡ length ids = image-columns in
+      let count : rowCount (imageOf ids rows ++ rest) ≡ length rows = header-rows (length rows) (length ids) g few in
+      let past : 1 + columnCount (imageOf ids rows ++ rest) ≡ suc (length ids) = omega (arith, columns) in
+      let cells : cellWords (imageOf ids rows ++ rest) ≡ flatten rows ++ rest =
+      ap (λ (n : ℕ). drop n (imageOf ids rows ++ rest)) past
+      ∙ ap (λ (l : List ℕ). drop (length ids) l) (append-assoc (map columnWord ids) (flatten rows) rest)
+      ∙ drop-at (map columnWord ids) (flatten rows ++ rest) (length ids) (length-map ids columnWord) in
+      ap₂ (λ (c n : ℕ). rowsIn c n (cellWords (imageOf ids rows ++ rest))) columns count
       ∙ ap (rowsIn (length ids) (length rows)) cells
-      ∙ rows-read (length ids) rows f
+      ∙ rows-read (length ids) rows rest f
+
+  pub image-rows : length rows < 2 ^ 12 → ((r : List ℕ) → Stands r rows → length r ≡ length ids) → imageRows (imageOf ids rows) ≡ rows
+  image-rows g f = ap imageRows (sym (append-nil (imageOf ids rows))) ∙ image-rows-front [] g f
 
 -- ---- an image that passes
 

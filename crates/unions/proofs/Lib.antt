@@ -5,3 +5,5 @@ pub mod Tables
 pub mod Numbered
 pub mod MinimumLaws
 pub mod ComplementLaws
+pub mod DemandLaws
+pub mod Sameness

@@ -11,6 +11,7 @@ ghost use Rattle.definitions.specs.OuterUnion.{unionRows};
 ghost use Rattle.definitions.specs.Answer.{complementSays, afterwards};
 ghost use Rattle.definitions.specs.Calls.{fusedImage, complementOutcome};
 ghost use Rattle.unions.specs.Fused.{SetsOf, FusedOf};
+ghost use Rattle.unions.specs.Demand3.{Fused};
 use crate::image::write_table;
 use crate::questions::check_pair;
 use definitions::ComplementAnswer;
@@ -50,6 +51,7 @@ pub fn fuse_rows(
     m
 }
 
+// The fused table goes to the table buffer, the set list to the set buffer; a call that isn't refused meets demand 3.
 pub fn complement_union(
     a: &[u32],
     b: &[u32],
@@ -59,6 +61,7 @@ pub fn complement_union(
     ensures answers { λ r. ⌜ complementSays r ≡ complementOutcome (now (a .entry)) (now (b .entry)) (length (now (table .entry))) (length (now (sets .entry))) ⌝ }
     ensures writes { λ r. ⌜ now (table .exit) ≡ afterwards (complementOutcome (now (a .entry)) (now (b .entry)) (length (now (table .entry))) (length (now (sets .entry)))) (fusedImage (now (a .entry)) (now (b .entry))) (now (table .entry)) ⌝ }
     ensures lists { λ r. ⌜ now (sets .exit) ≡ afterwards (complementOutcome (now (a .entry)) (now (b .entry)) (length (now (table .entry))) (length (now (sets .entry)))) (setList (unionRows (now (a .entry)) (now (b .entry)))) (now (sets .entry)) ⌝ }
+    ensures demand { λ r. ⌜ Fused (complementSays r) (now (a .entry)) (now (b .entry)) (now (table .exit)) (now (sets .exit)) ⌝ }
 {
     let checks = check_pair(a, b);
     let number = checks.number;

@@ -1,7 +1,7 @@
--- Each return is a case of the definition: a refusal with both buffers as they were, or done with the fused table and the set list.
-use mathlib.Core.Path.{_≡_, _∙_, sym, ap}
-use mathlib.Core.List.{List}
-use Prim.Native.Nat.{ℕ, _+_, _*_, _≤_, _<_}
+-- Each return is a case of the definition: a refusal with both buffers as they were, or done with the fused table and the set list, which
+-- give demand 3.
+use mathlib.Core.Path.{refl, _∙_}
+use Prim.Native.Nat.{_≤_}
 use native.Mathlib.Omega.{arith}
 use lib.ListN.{length}
 use Rattle.definitions.specs.Limits.{maxSets}
@@ -9,9 +9,10 @@ use Rattle.definitions.specs.OuterUnion.{unionRows}
 use Rattle.definitions.specs.ComplementUnion.{unionSets}
 use Rattle.definitions.specs.SetList.{setList}
 use Rattle.definitions.specs.Calls.{fusedImage, complementOutcome}
-use Rattle.unions.proofs.Pairs.{pair-refused, left-alone, written-over}
+use Rattle.unions.proofs.Pairs.{pair-refused}
 use Rattle.unions.proofs.Tables.{cells-fit, ids-small}
 use Rattle.unions.proofs.ComplementLaws.{sets-counted, sets-few, fused-cells, fused-words, list-words, below-places, fused-written, sets-written, complement-values, no-sets, no-table, no-list, all-yes}
+use Rattle.unions.proofs.DemandLaws.{promised}
 use borrow.Author.Needs.{needs}
 use Rattle.unions.proofs.complement.complement_union.Statement.{statement}
 use Rattle.unions.proofs.complement.complement_union.Tie as tie
@@ -25,7 +26,7 @@ returns c =
     let s = c .before .before .before .before .before .before in
     let k = c .before .check-pair in
     let e = pair-refused (s .args .a .now) (s .args .b .now) (k .result) (k .ensures) _ (c .if1 .taken) in
-    (e, (left-alone _ _ _ (fusedImage (s .args .a .now) (s .args .b .now)) (s .args .table .now) e, left-alone _ _ _ (setList (unionRows (s .args .a .now) (s .args .b .now))) (s .args .sets .now) e))
+    promised (s .args .a .now) (s .args .b .now) (s .args .table .now) (s .args .sets .now) _ _ _ e refl refl
 
 union-table-requires : tie.Need-union-table-requires
 union-table-requires c κs =
@@ -54,7 +55,7 @@ returns-2 c =
     let u = c .before .before .before .before .before .before .before .union-table in
     let l = c .before .before .list-sets in
     let e = no-sets (s .args .a .now) (s .args .b .now) (k .result) (k .ensures) (c .before .before .before .before .before .before .before .before .if1 .left) (fusedImage (s .args .a .now) (s .args .b .now)) (setList (unionRows (s .args .a .now) (s .args .b .now))) (length (unionSets (unionRows (s .args .a .now) (s .args .b .now)))) (length (s .args .table .now)) (length (s .args .sets .now)) _ (sets-counted (s .args .a .now) (s .args .b .now) (u .result) (u .ensures) (l .ensures .many (c .if2 .taken))) in
-    (e, (left-alone _ _ _ (fusedImage (s .args .a .now) (s .args .b .now)) (s .args .table .now) e, left-alone _ _ _ (setList (unionRows (s .args .a .now) (s .args .b .now))) (s .args .sets .now) e))
+    promised (s .args .a .now) (s .args .b .now) (s .args .table .now) (s .args .sets .now) _ _ _ e refl refl
 
 slice-aggregate-fuse-rows : tie.Need-slice-aggregate-fuse-rows
 slice-aggregate-fuse-rows c = search needs
@@ -114,7 +115,7 @@ returns-3 c =
     let w = fused-words (s .args .a .now) (s .args .b .now) (u .result) (u .ensures) (l .result) (f .result) _ _ _ _ (l .ensures) (omega (arith, c .before .before .before .before .before .before .before .before .before .before .before .before .if2 .left)) (f .ensures .0) (f .ensures .1) (f .ensures .2) in
     let i = sets-few (s .args .a .now) (s .args .b .now) (u .result) (u .ensures) (l .result) (f .result) _ _ _ _ (l .ensures) (omega (arith, c .before .before .before .before .before .before .before .before .before .before .before .before .if2 .left)) (f .ensures .0) (f .ensures .1) (f .ensures .2) in
     let e = no-table (s .args .a .now) (s .args .b .now) (k .result) (k .ensures) (c .before .before .before .before .before .before .before .before .before .before .before .before .before .before .before .before .before .before .before .before .if1 .left) (fusedImage (s .args .a .now) (s .args .b .now)) (setList (unionRows (s .args .a .now) (s .args .b .now))) (length (unionSets (unionRows (s .args .a .now) (s .args .b .now)))) (length (s .args .table .now)) (length (s .args .sets .now)) _ i (omega arith) in
-    (e, (left-alone _ _ _ (fusedImage (s .args .a .now) (s .args .b .now)) (s .args .table .now) e, left-alone _ _ _ (setList (unionRows (s .args .a .now) (s .args .b .now))) (s .args .sets .now) e))
+    promised (s .args .a .now) (s .args .b .now) (s .args .table .now) (s .args .sets .now) _ _ _ e refl refl
 
 mul-set-words : tie.Need-mul-set-words
 mul-set-words c = search needs
@@ -134,7 +135,7 @@ returns-4 c =
     let i = sets-few (s .args .a .now) (s .args .b .now) (u .result) (u .ensures) (l .result) (f .result) _ _ _ _ (l .ensures) (omega (arith, c .before .before .before .before .before .before .before .before .before .before .before .before .before .if2 .left)) (f .ensures .0) (f .ensures .1) (f .ensures .2) in
     let v = list-words (s .args .a .now) (s .args .b .now) (u .result) (u .ensures) (l .result) (f .result) _ _ _ _ (l .ensures) (omega (arith, c .before .before .before .before .before .before .before .before .before .before .before .before .before .if2 .left)) (f .ensures .0) (f .ensures .1) (f .ensures .2) in
     let e = no-list (s .args .a .now) (s .args .b .now) (k .result) (k .ensures) (c .before .before .before .before .before .before .before .before .before .before .before .before .before .before .before .before .before .before .before .before .before .if1 .left) (fusedImage (s .args .a .now) (s .args .b .now)) (setList (unionRows (s .args .a .now) (s .args .b .now))) (length (unionSets (unionRows (s .args .a .now) (s .args .b .now)))) (length (s .args .table .now)) (length (s .args .sets .now)) _ i (omega (arith, c .before .if3 .left)) (omega arith) in
-    (e, (left-alone _ _ _ (fusedImage (s .args .a .now) (s .args .b .now)) (s .args .table .now) e, left-alone _ _ _ (setList (unionRows (s .args .a .now) (s .args .b .now))) (s .args .sets .now) e))
+    promised (s .args .a .now) (s .args .b .now) (s .args .table .now) (s .args .sets .now) _ _ _ e refl refl
 
 slice-aggregate-write-table : tie.Need-slice-aggregate-write-table
 slice-aggregate-write-table c = search needs
@@ -189,7 +190,9 @@ returns-5 c =
     let v = list-words (s .args .a .now) (s .args .b .now) (u .result) (u .ensures) (l .result) (f .result) _ _ _ _ (l .ensures) (omega (arith, c .before .before .before .before .before .before .before .before .before .before .before .before .before .before .before .before .before .before .before .before .before .before .before .before .before .before .before .before .if2 .left)) (f .ensures .0) (f .ensures .1) (f .ensures .2) in
     let p = c .before .before .before .before .before .before .before .before .write-table .ensures in
     let e = complement-values (s .args .a .now) (s .args .b .now) (u .result) (u .ensures) (l .result) (f .result) _ _ _ _ (l .ensures) (omega (arith, c .before .before .before .before .before .before .before .before .before .before .before .before .before .before .before .before .before .before .before .before .before .before .before .before .before .before .before .before .if2 .left)) (f .ensures .0) (f .ensures .1) (f .ensures .2) _ (p .1) ∙ all-yes (s .args .a .now) (s .args .b .now) (k .result) (k .ensures) (c .before .before .before .before .before .before .before .before .before .before .before .before .before .before .before .before .before .before .before .before .before .before .before .before .before .before .before .before .before .before .before .before .before .before .before .before .if1 .left) (fusedImage (s .args .a .now) (s .args .b .now)) (setList (unionRows (s .args .a .now) (s .args .b .now))) (length (unionSets (unionRows (s .args .a .now) (s .args .b .now)))) (length (s .args .table .now)) (length (s .args .sets .now)) _ i (omega (arith, c .before .before .before .before .before .before .before .before .before .before .before .before .before .before .before .before .if3 .left)) (omega (arith, c .before .before .before .before .before .before .before .before .before .before .before .before .before .before .before .if4 .left)) in
-    (e, (written-over _ _ (fusedImage (s .args .a .now) (s .args .b .now)) (s .args .table .now) _ e (fused-written (s .args .a .now) (s .args .b .now) (u .result) (u .ensures) (l .result) (f .result) _ _ _ _ (l .ensures) (omega (arith, c .before .before .before .before .before .before .before .before .before .before .before .before .before .before .before .before .before .before .before .before .before .before .before .before .before .before .before .before .if2 .left)) (f .ensures .0) (f .ensures .1) (f .ensures .2) (s .args .table .now) _ (p .0)), written-over _ _ (setList (unionRows (s .args .a .now) (s .args .b .now))) (s .args .sets .now) _ e (sets-written (s .args .a .now) (s .args .b .now) (u .result) (u .ensures) (l .result) (f .result) _ _ _ _ (l .ensures) (omega (arith, c .before .before .before .before .before .before .before .before .before .before .before .before .before .before .before .before .before .before .before .before .before .before .before .before .before .before .before .before .if2 .left)) (f .ensures .0) (f .ensures .1) (f .ensures .2) (s .args .sets .now) _ (c .before .before .write-sets .ensures))))
+    promised (s .args .a .now) (s .args .b .now) (s .args .table .now) (s .args .sets .now) _ _ _ e
+    (fused-written (s .args .a .now) (s .args .b .now) (u .result) (u .ensures) (l .result) (f .result) _ _ _ _ (l .ensures) (omega (arith, c .before .before .before .before .before .before .before .before .before .before .before .before .before .before .before .before .before .before .before .before .before .before .before .before .before .before .before .before .if2 .left)) (f .ensures .0) (f .ensures .1) (f .ensures .2) (s .args .table .now) _ (p .0))
+    (sets-written (s .args .a .now) (s .args .b .now) (u .result) (u .ensures) (l .result) (f .result) _ _ _ _ (l .ensures) (omega (arith, c .before .before .before .before .before .before .before .before .before .before .before .before .before .before .before .before .before .before .before .before .before .before .before .before .before .before .before .before .if2 .left)) (f .ensures .0) (f .ensures .1) (f .ensures .2) (s .args .sets .now) _ (c .before .before .write-sets .ensures))
 
 pub complement-union-spec : {M : Type 1} → statement M
 complement-union-spec =

@@ -1,0 +1,80 @@
+-- The counts of a done answer fit words of 32 bits: by the limits on columns, rows and sets. Assumes nothing.
+use mathlib.Core.Path.{_≡_, sym, subst}
+use mathlib.Core.List.{List, [], _∷_, map, flatten}
+use Prim.Native.Nat.{ℕ, _+_, _-_, _*_, _^_, _≤_, _<_}
+use native.Mathlib.Nat.{mul-le-mul}
+use native.Mathlib.Omega.{arith}
+use lib.ListN.{length, length-append}
+use Rattle.definitions.specs.Limits.{maxColumns, maxUnionRows, maxSets}
+use Rattle.definitions.specs.Word.{columnWord, isFilled}
+use Rattle.definitions.specs.Image.{imageOf}
+use Rattle.definitions.specs.OuterUnion.{unionIds, unionRows}
+use Rattle.definitions.specs.MinimumUnion.{filled, minimumRows}
+use Rattle.definitions.specs.ComplementUnion.{fusedRows}
+use Rattle.definitions.specs.Answer.{done}
+use Rattle.definitions.specs.Calls.{outerImage, minimumImage, fusedImage, outerOutcome, minimumOutcome, complementOutcome}
+use Rattle.definitions.proofs.Bools.{bool-cases}
+use Rattle.definitions.proofs.Counts.{fused-count, minimum-count, pairs-bound, set-list-length}
+use Rattle.definitions.proofs.Images.{accepted-rows}
+use Rattle.definitions.proofs.Outcomes.{outer-done, minimum-done, complement-done}
+use Rattle.definitions.proofs.Unions.{outer-length, minimum-length, fused-length}
+
+-- each number of the list is a word of 32 bits
+abbrev pub FitWords : List ℕ → Type 0
+FitWords [] = Unit {0}
+FitWords (x ∷ l) = (x < 2 ^ 32) × FitWords l
+
+filled-few : (s : List ℕ) → filled s ≤ length s
+unfolding filled
+filled-few [] = omega arith
+filled-few (x ∷ s) =
+    let i = filled-few s in
+    bool-cases (isFilled x) (λ e. rw e (omega arith)) (λ e. rw e (omega arith))
+
+-- no more filled cells than words
+image-filled : (ids : List ℕ) (rows : List (List ℕ)) → filled (flatten rows) ≤ length (imageOf ids rows)
+unfolding imageOf
+image-filled ids rows =
+    let i = filled-few (flatten rows) in
+    let w = length-append (map columnWord ids) (flatten rows) in
+    omega arith
+
+-- an image of at most 16 columns and 1,024 rows
+few-words : (columns rows words : ℕ) → columns ≤ maxColumns → rows ≤ maxSets → words ≡ 1 + columns + rows * columns → words < 2 ^ 32
+few-words columns rows words h k e =
+    let p = mul-le-mul k h in
+    omega arith
+
+module _ (a b : List ℕ) where
+  pub outer-fits : (room : ℕ) (values : List ℕ) → outerOutcome a b room ≡ done values → FitWords values
+  unfolding outerImage
+  outer-fits room values e =
+      let d = outer-done a b room values .0 e in
+      let n = accepted-rows a b (d .accepted) in
+      let w = few-words (length (unionIds a b)) (length (unionRows a b)) _ (d .accepted .columns) (omega arith) (outer-length a b) in
+      let f = image-filled (unionIds a b) (unionRows a b) in
+      subst FitWords (sym (d .carries)) (omega arith, (w, (omega arith, tt)))
+
+  pub minimum-fits : (room : ℕ) (values : List ℕ) → minimumOutcome a b room ≡ done values → FitWords values
+  unfolding minimumImage
+  minimum-fits room values e =
+      let d = minimum-done a b room values .0 e in
+      let n = accepted-rows a b (d .accepted) in
+      let m = minimum-count (unionRows a b) in
+      let w = few-words (length (unionIds a b)) (length (minimumRows (unionRows a b))) _ (d .accepted .columns) (omega arith) (minimum-length a b) in
+      let f = image-filled (unionIds a b) (minimumRows (unionRows a b)) in
+      let p = pairs-bound (unionRows a b) in
+      let o : length (unionRows a b) - 1 ≤ maxUnionRows = omega arith in
+      let q = mul-le-mul n o in
+      subst FitWords (sym (d .carries)) (omega arith, (w, (omega arith, (omega arith, tt))))
+
+  pub complement-fits : (room setRoom : ℕ) (values : List ℕ) → complementOutcome a b room setRoom ≡ done values → FitWords values
+  unfolding fusedImage
+  complement-fits room setRoom values e =
+      let d = complement-done a b room setRoom values .0 e in
+      let s = d .few-sets in
+      let n = fused-count (unionRows a b) in
+      let w = few-words (length (unionIds a b)) (length (fusedRows (unionRows a b))) _ (d .accepted .columns) (omega arith) (fused-length a b) in
+      let f = image-filled (unionIds a b) (fusedRows (unionRows a b)) in
+      let l = set-list-length (unionRows a b) in
+      subst FitWords (sym (d .carries)) (omega arith, (w, (omega arith, (omega arith, (omega arith, tt)))))

@@ -1,0 +1,104 @@
+-- `fusion_complement_union` gives the answer of `complement_union` as words: its counts fit them.
+use mathlib.Core.Path.{sym, _∙_, ap}
+use mathlib.Core.List.{[], _∷_}
+use lib.ListN.{length}
+use borrow.Author.Needs.{needs}
+use Rattle.definitions.specs.Answer.{Outcome, complementSays}
+use Rattle.fusion_c.specs.CInterface.{numberOf, complementWords, putOver}
+use Rattle.fusion_c.proofs.Bounds.{FitWords, complement-fits}
+use Rattle.fusion_c.proofs.fusion_complement_union.Statement.{statement}
+use Rattle.fusion_c.proofs.fusion_complement_union.Tie as tie
+
+complement-union-requires : tie.Need-complement-union-requires
+complement-union-requires c κs = search needs
+
+enum-known-rows : tie.Need-enum-known-rows
+enum-known-rows c = search needs
+
+-- the counts of a done answer fit
+fits : (c : tie.After-put-words-arg) → FitWords (c .before .before .rows .given .0 .0 ∷ c .before .before .rows .given .0 .1 .0 ∷ c .before .before .rows .given .0 .1 .1 .0 ∷ c .before .before .rows .given .0 .1 .1 .1 .0 ∷ c .before .before .rows .given .0 .1 .1 .1 .1 .0 ∷ [])
+fits c =
+    let a = c .before .before .before .before .before .before .before .before .before .before .before .before .before .before .before .before .args in
+    let u = c .before .before .before .before .before .before .before .before .complement-union in
+    complement-fits (a .first .now) (a .second .now) (length (a .table .now)) (length (a .sets .now)) _ (sym (u .ensures .0) ∙ ap complementSays (c .before .before .rows .given .1))
+
+cast-t22 : tie.Need-cast-t22
+cast-t22 c = let w = fits c .0 in search needs
+
+cast-t23 : tie.Need-cast-t23
+cast-t23 c = let w = fits c .1 .0 in search needs
+
+cast-t24 : tie.Need-cast-t24
+cast-t24 c = let w = fits c .1 .1 .0 in search needs
+
+cast-t25 : tie.Need-cast-t25
+cast-t25 c = let w = fits c .1 .1 .1 .0 in search needs
+
+cast-t26 : tie.Need-cast-t26
+cast-t26 c = let w = fits c .1 .1 .1 .1 .0 in search needs
+
+put-words-requires : tie.Need-put-words-requires
+put-words-requires c κs = search needs
+
+enum-known-number : tie.Need-enum-known-number
+enum-known-number c = search needs
+
+put-refusal-requires : tie.Need-put-refusal-requires
+put-refusal-requires c κs = search needs
+
+same-length : tie.Need-same-length
+same-length c = search needs
+
+same-length-2 : tie.Need-same-length-2
+same-length-2 c = search needs
+
+same-length-3 : tie.Need-same-length-3
+same-length-3 c = search needs
+
+returns : tie.Need-returns
+returns c =
+    let a = c .before .before .before .before .before .before .before .before .before .before .before .before .before .before .before .before .before .before .before .before .args in
+    let u = c .before .before .before .before .before .before .before .before .before .before .before .before .complement-union in
+    let p = c .before .before .put-words in
+    let e = sym (ap complementSays (c .before .before .before .before .before .before .rows .given .1)) ∙ u .ensures .0 in
+    (p .ensures .0 ∙ ap numberOf e, (u .ensures .1 .0, (u .ensures .1 .1 .0, p .ensures .1 ∙ ap (λ (o : Outcome). putOver (complementWords o) (a .answer .now)) e)))
+
+same-length-4 : tie.Need-same-length-4
+same-length-4 c = search needs
+
+same-length-5 : tie.Need-same-length-5
+same-length-5 c = search needs
+
+same-length-6 : tie.Need-same-length-6
+same-length-6 c = search needs
+
+returns-2 : tie.Need-returns-2
+returns-2 c =
+    let a = c .before .before .before .before .before .before .before .before .before .before .before .before .before .before .before .before .before .before .before .args in
+    let u = c .before .before .before .before .before .before .before .before .before .before .before .complement-union in
+    let p = c .before .before .put-refusal in
+    let e = sym (ap complementSays (c .before .before .before .before .before .number .given .1)) ∙ u .ensures .0 in
+    (p .ensures .0 ∙ ap numberOf e, (u .ensures .1 .0, (u .ensures .1 .1 .0, p .ensures .1 ∙ ap (λ (o : Outcome). putOver (complementWords o) (a .answer .now)) e)))
+
+pub fusion-complement-union-spec : {M : Type 1} → statement M
+fusion-complement-union-spec =
+    tie.close
+    (tie.spec
+    complement-union-requires
+    enum-known-rows
+    cast-t22
+    cast-t23
+    cast-t24
+    cast-t25
+    cast-t26
+    put-words-requires
+    enum-known-number
+    put-refusal-requires
+    same-length
+    same-length-2
+    same-length-3
+    returns
+    same-length-4
+    same-length-5
+    same-length-6
+    returns-2)

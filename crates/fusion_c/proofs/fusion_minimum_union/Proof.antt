@@ -1,0 +1,92 @@
+-- `fusion_minimum_union` gives the answer of `minimum_union` as words: its counts fit them.
+use mathlib.Core.Path.{sym, _∙_, ap}
+use mathlib.Core.List.{[], _∷_}
+use lib.ListN.{length}
+use borrow.Author.Needs.{needs}
+use Rattle.definitions.specs.Answer.{Outcome, minimumSays}
+use Rattle.fusion_c.specs.CInterface.{numberOf, minimumWords, putOver}
+use Rattle.fusion_c.proofs.Bounds.{FitWords, minimum-fits}
+use Rattle.fusion_c.proofs.fusion_minimum_union.Statement.{statement}
+use Rattle.fusion_c.proofs.fusion_minimum_union.Tie as tie
+
+minimum-union-requires : tie.Need-minimum-union-requires
+minimum-union-requires c κs = search needs
+
+enum-known-rows : tie.Need-enum-known-rows
+enum-known-rows c = search needs
+
+-- the counts of a done answer fit
+fits : (c : tie.After-put-words-arg) → FitWords (c .before .before .rows .given .0 .0 ∷ c .before .before .rows .given .0 .1 .0 ∷ c .before .before .rows .given .0 .1 .1 .0 ∷ c .before .before .rows .given .0 .1 .1 .1 .0 ∷ [])
+fits c =
+    let a = c .before .before .before .before .before .before .before .before .before .before .before .before .args in
+    let u = c .before .before .before .before .before .before .minimum-union in
+    minimum-fits (a .first .now) (a .second .now) (length (a .table .now)) _ (sym (u .ensures .0) ∙ ap minimumSays (c .before .before .rows .given .1))
+
+cast-t18 : tie.Need-cast-t18
+cast-t18 c = let w = fits c .0 in search needs
+
+cast-t19 : tie.Need-cast-t19
+cast-t19 c = let w = fits c .1 .0 in search needs
+
+cast-t20 : tie.Need-cast-t20
+cast-t20 c = let w = fits c .1 .1 .0 in search needs
+
+cast-t21 : tie.Need-cast-t21
+cast-t21 c = let w = fits c .1 .1 .1 .0 in search needs
+
+put-words-requires : tie.Need-put-words-requires
+put-words-requires c κs = search needs
+
+enum-known-number : tie.Need-enum-known-number
+enum-known-number c = search needs
+
+put-refusal-requires : tie.Need-put-refusal-requires
+put-refusal-requires c κs = search needs
+
+same-length : tie.Need-same-length
+same-length c = search needs
+
+same-length-2 : tie.Need-same-length-2
+same-length-2 c = search needs
+
+returns : tie.Need-returns
+returns c =
+    let a = c .before .before .before .before .before .before .before .before .before .before .before .before .before .before .before .before .args in
+    let u = c .before .before .before .before .before .before .before .before .before .before .minimum-union in
+    let p = c .before .before .put-words in
+    let e = sym (ap minimumSays (c .before .before .before .before .before .before .rows .given .1)) ∙ u .ensures .0 in
+    (p .ensures .0 ∙ ap numberOf e, (u .ensures .1, p .ensures .1 ∙ ap (λ (o : Outcome). putOver (minimumWords o) (a .answer .now)) e))
+
+same-length-3 : tie.Need-same-length-3
+same-length-3 c = search needs
+
+same-length-4 : tie.Need-same-length-4
+same-length-4 c = search needs
+
+returns-2 : tie.Need-returns-2
+returns-2 c =
+    let a = c .before .before .before .before .before .before .before .before .before .before .before .before .before .before .before .args in
+    let u = c .before .before .before .before .before .before .before .before .before .minimum-union in
+    let p = c .before .before .put-refusal in
+    let e = sym (ap minimumSays (c .before .before .before .before .before .number .given .1)) ∙ u .ensures .0 in
+    (p .ensures .0 ∙ ap numberOf e, (u .ensures .1, p .ensures .1 ∙ ap (λ (o : Outcome). putOver (minimumWords o) (a .answer .now)) e))
+
+pub fusion-minimum-union-spec : {M : Type 1} → statement M
+fusion-minimum-union-spec =
+    tie.close
+    (tie.spec
+    minimum-union-requires
+    enum-known-rows
+    cast-t18
+    cast-t19
+    cast-t20
+    cast-t21
+    put-words-requires
+    enum-known-number
+    put-refusal-requires
+    same-length
+    same-length-2
+    returns
+    same-length-3
+    same-length-4
+    returns-2)

@@ -1,0 +1,35 @@
+-- The answer of a call as the C interface gives it: a number, and eight words.
+use Prim.Native.Nat.{ℕ}
+use mathlib.Core.List.{List, [], _∷_, _++_}
+use lib.ListN.{length, take, drop}
+use Rattle.definitions.specs.Answer.{Outcome, done, refused}
+
+-- the number of the refusal, 0 for done
+abbrev pub numberOf : Outcome → ℕ
+numberOf (done values) = 0
+numberOf (refused number table) = number
+
+-- number and table, and no values
+abbrev pub refusalWords : ℕ → ℕ → List ℕ
+refusalWords number table = number ∷ table ∷ 0 ∷ 0 ∷ 0 ∷ 0 ∷ 0 ∷ 0 ∷ []
+
+-- number, table, rows, words, filled cells, pairs tried, sets, words of the set list; `place` puts a call's values into the last six
+abbrev pub answerWords : (List ℕ → List ℕ) → Outcome → List ℕ
+answerWords place (done values) = 0 ∷ 0 ∷ place values
+answerWords place (refused number table) = refusalWords number table
+
+-- rows, words and filled cells
+abbrev pub outerWords : Outcome → List ℕ
+outerWords = answerWords (λ values. values ++ 0 ∷ 0 ∷ 0 ∷ [])
+
+-- rows, words, filled cells and pairs tried
+abbrev pub minimumWords : Outcome → List ℕ
+minimumWords = answerWords (λ values. values ++ 0 ∷ 0 ∷ [])
+
+-- rows, words and filled cells, no pairs tried, sets and words of the set list
+abbrev pub complementWords : Outcome → List ℕ
+complementWords = answerWords (λ values. take 3 values ++ 0 ∷ drop 3 values)
+
+-- a buffer with the words over its front, as far as they fit: the rest is as found
+abbrev pub putOver : List ℕ → List ℕ → List ℕ
+putOver words found = take (length found) words ++ drop (length words) found

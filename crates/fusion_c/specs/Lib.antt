@@ -1,0 +1,2 @@
+-- Words of the contracts of the C interface.
+pub mod CInterface
