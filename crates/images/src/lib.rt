@@ -31,28 +31,26 @@ pub fn is_column(w: u32) -> bool
 pub fn all_columns(w: &[u32]) -> bool
     ensures { λ r. ⌜ r ≡ all isColumn (now (w .entry)) ⌝ }
 {
+    let mut fit = true;
     let mut i = 0;
     while i < w.len() {
-        if !is_column(w[i]) {
-            return false;
-        }
+        fit = fit & is_column(w[i]);
         i += 1;
     }
-    true
+    fit
 }
 
-// Whether every word may stand as a cell.
+// Whether every word may stand as a cell. Every word is looked at: several at a time are quicker than to stop at the first wrong one.
 pub fn all_cells(w: &[u32]) -> bool
     ensures { λ r. ⌜ r ≡ all isCell (now (w .entry)) ⌝ }
 {
+    let mut fit = true;
     let mut i = 0;
     while i < w.len() {
-        if !words::is_cell(w[i]) {
-            return false;
-        }
+        fit = fit & words::is_cell(w[i]);
         i += 1;
     }
-    true
+    fit
 }
 
 // Whether a column word of the list has the id.
