@@ -2,6 +2,7 @@
 pub mod Counting
 pub mod Marking
 pub mod Passing
+pub mod Covering
 pub mod OtherRows
 pub mod Trying
 pub mod Keeping

@@ -20,10 +20,10 @@ use Rattle.definitions.proofs.Lists.{stands-get, stands-at, any-of, any-none, b
 use Rattle.definitions.proofs.Rows.{filled-cell, covers-at}
 use Rattle.definitions.proofs.Subsumption.{subsumes-is, subsumes-self}
 use Rattle.lists.proofs.Flat.{rows-length, rows-at, row-fits, part-row}
-use Rattle.lists.proofs.Walks.{next, end}
 use Rattle.cliques.specs.Bits.{has}
 use Rattle.minimum.specs.Trying.{isSubsumed, triesAt}
 use Rattle.minimum.specs.Marks.{MarkedFor, Candidates, NextOf, Prepared}
+use Rattle.minimum.proofs.Covering.{covers-next, covers-end}
 use Rattle.minimum.proofs.OtherRows.{Passed, others-all, others-before, others-after}
 
 -- ---- how far the trying of row k has come
@@ -46,18 +46,6 @@ module _ (width n : ℕ) (w : List ℕ) (k : ℕ) where
     pub found : subsumed ≡ isSubsumed (rowsIn width n w) k
     pub pairs : cond (ltb k looked) (looked - 1) looked ≡ triesAt (rowsIn width n w) k
     pub fewer : cond (ltb k looked) (looked - 1) looked < n
-
--- ---- covering, from a column on
-
-module _ (s t : List ℕ) (c : ℕ) (inv : covers s t ≡ covers (drop c s) (drop c t)) where
-  covers-next : c < length s → c < length t
-      → covers s t ≡ ((not (isFilled (getD t c 0)) || eqb (getD s c 0) (getD t c 0)) && covers (drop (c + 1) s) (drop (c + 1) t))
-  unfolding covers
-  covers-next hs ht = inv ∙ ap₂ covers (next 0 s c hs) (next 0 t c ht)
-
-  covers-end : length t ≤ c → covers s t ≡ true
-  unfolding covers
-  covers-end h = inv ∙ ap (covers (drop c s)) (end t c h)
 
 three-cases {ℓ} : {X : Type ℓ} (k j : ℕ) → (k < j → X) → (j ≡ k → X) → (j < k → X) → X
 three-cases k j f g h =

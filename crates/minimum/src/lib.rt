@@ -2,6 +2,7 @@
 // and are named by their numbers.
 mod candidates;
 mod counts;
+mod subsumption;
 mod trial;
 
 ghost use mathlib.Core.Path.{_≡_};
@@ -14,6 +15,7 @@ ghost use Rattle.minimum.specs.Trying.{Unsubsumed};
 ghost use Rattle.minimum.specs.Marks.{Prepared};
 use candidates::mark_rows;
 use counts::fill_counts;
+pub use subsumption::subsumes;
 use trial::try_row;
 
 // How many rows stay, and how many pairs are tried.

@@ -1,23 +1,13 @@
 // The trying of one row with the other rows in ascending position, until one subsumes it.
 use crate::candidates;
+use crate::subsumption::covered;
 ghost use mathlib.Core.Path.{_≡_};
-ghost use mathlib.Core.Bool.{cond, not, _||_};
+ghost use mathlib.Core.Bool.{cond};
 ghost use Prim.Native.Nat.{_-_, _<_};
-ghost use lib.Dec.{eqb, ltb};
-ghost use Rattle.definitions.specs.Word.{isFilled};
+ghost use lib.Dec.{ltb};
 ghost use Rattle.definitions.specs.Image.{rowsIn};
 ghost use Rattle.minimum.specs.Trying.{isSubsumed, triesAt};
 ghost use Rattle.minimum.specs.Marks.{Prepared};
-
-// A cell y of the emptier row is empty, or equals the other row's cell x.
-fn covered(x: u32, y: u32) -> bool
-    ensures { λ r. ⌜ r ≡ (not (isFilled y) || eqb x y) ⌝ }
-{
-    if y == 0 {
-        return true;
-    }
-    x == y
-}
 
 // How many of the first rows are others than row k.
 fn others(first: usize, k: usize) -> usize

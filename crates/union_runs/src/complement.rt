@@ -1,9 +1,9 @@
 // Complement union.
 use crate::call::Call;
+use crate::cases::case;
+use crate::cases::part;
 use crate::image;
 use crate::print;
-use crate::tables::case;
-use crate::tables::part;
 
 fn complement(name: &[u8], first: &[u8], second: &[u8], room: usize, set_room: usize) {
     case(Call::Complement, name, first, second, room, set_room);

@@ -1,12 +1,13 @@
-// Runs of the three calls: each case's answer, the words written, and how many of the words past them are as found.
+// Runs of subsumption and of the three calls: each case's answer, the words written, and how many of the words past them are as found.
 mod call;
+mod cases;
 mod complement;
 mod image;
-mod minimum;
+mod minimal;
 mod outer;
 mod print;
 mod spoiled;
-mod tables;
+mod subsumption;
 
 fn main() {
     outer::rows();
@@ -15,8 +16,9 @@ fn main() {
     spoiled::heads();
     spoiled::words();
     spoiled::both();
-    minimum::few();
-    minimum::many();
+    subsumption::pairs();
+    minimal::few();
+    minimal::many();
     complement::paper();
     complement::room();
     complement::many();

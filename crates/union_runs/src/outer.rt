@@ -1,6 +1,6 @@
 // Outer union.
 use crate::call::Call;
-use crate::tables::case;
+use crate::cases::case;
 
 fn outer(name: &[u8], first: &[u8], second: &[u8], room: usize) {
     case(Call::Outer, name, first, second, room, 0);

@@ -1,8 +1,8 @@
 // Outer union of spoiled tables. Before, each has two columns, one of them shared, and two rows: seven words.
 use crate::call::Call;
+use crate::cases::part;
 use crate::image;
 use crate::print;
-use crate::tables::part;
 
 const LENGTH: usize = 7;
 

@@ -1,6 +1,6 @@
 // Minimum union.
 use crate::call::Call;
-use crate::tables::case;
+use crate::cases::case;
 
 fn minimum(name: &[u8], first: &[u8], second: &[u8], room: usize) {
     case(Call::Minimum, name, first, second, room, 0);

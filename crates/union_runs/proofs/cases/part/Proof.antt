@@ -2,8 +2,8 @@
 use mathlib.Core.Path.{sym}
 use lib.Seq.{length-take-le}
 use borrow.Author.Needs.{needs}
-use Rattle.union_runs.proofs.tables.part.Statement.{statement}
-use Rattle.union_runs.proofs.tables.part.Tie as tie
+use Rattle.union_runs.proofs.cases.part.Statement.{statement}
+use Rattle.union_runs.proofs.cases.part.Tie as tie
 
 slice-aggregate-run : tie.Need-slice-aggregate-run
 slice-aggregate-run c = sym (length-take-le _ _ (search needs))
