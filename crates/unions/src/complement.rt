@@ -1,20 +1,22 @@
 // Complement union: the fused table as an image, and the set list.
 ghost use mathlib.Core.Path.{_≡_};
 ghost use mathlib.Core.List.{map};
-ghost use Prim.Native.Nat.{suc, _*_, _≤_};
-ghost use lib.ListN.{length, take};
+ghost use Prim.Native.Nat.{ℕ, suc, _*_, _^_, _≤_, _<_};
+ghost use lib.ListN.{length, getD, take};
 ghost use Rattle.definitions.specs.Limits.{maxColumns, maxUnionRows, maxSets};
-ghost use Rattle.definitions.specs.Image.{rowsIn};
-ghost use Rattle.definitions.specs.ComplementUnion.{unionSets};
+ghost use Rattle.definitions.specs.Image.{rowsIn, imageOf};
+ghost use Rattle.definitions.specs.ComplementUnion.{unionSets, fusedRows};
 ghost use Rattle.definitions.specs.SetList.{bits, setList};
 ghost use Rattle.definitions.specs.OuterUnion.{unionRows};
 ghost use Rattle.definitions.specs.Answer.{complementSays, afterwards};
 ghost use Rattle.definitions.specs.Calls.{fusedImage, complementOutcome};
-ghost use Rattle.unions.specs.Fused.{SetsOf, FusedOf};
+ghost use Rattle.tables.specs.Table.{Holds};
+ghost use Rattle.unions.specs.Fused.{idsOf, rowsOf, fusedOutcome, SetsOf, FusedOf};
 ghost use Rattle.unions.specs.Demand3.{Fused};
 use crate::image::write_table;
 use crate::questions::check_pair;
 use definitions::ComplementAnswer;
+use tables::Table;
 
 // Lists the maximal sets of the first n rows; how many they are, at most 1,025.
 pub fn list_sets(cells: &[u32], n: usize, width: usize, list: &mut [u64]) -> usize
@@ -29,7 +31,7 @@ pub fn list_sets(cells: &[u32], n: usize, width: usize, list: &mut [u64]) -> usi
 }
 
 // Joins the rows of each set, and names the distinct joined rows ascending by their numbers; how many they are. The place of each set's
-// joined row among them is written too.
+// joined row among them is written too: until then `places` is the spare list of the ordering.
 pub fn fuse_rows(
     cells: &[u32],
     n: usize,
@@ -41,17 +43,71 @@ pub fn fuse_rows(
     places: &mut [u32],
 ) -> usize
     requires { ⌜ (n ≤ maxUnionRows) × (width ≤ maxColumns) × (n * width ≤ length (now cells)) × (count ≤ maxSets) × (count ≤ length (now list)) × (take count (now list) ≡ map bits (unionSets (rowsIn width n (now cells)))) ⌝ }
-    requires { ⌜ (maxSets * maxColumns ≤ length (now joined)) × (maxSets ≤ length (now order)) × (maxSets ≤ length (now places)) ⌝ }
+    requires { ⌜ (count * width ≤ length (now joined)) × (count ≤ length (now order)) × (count ≤ length (now places)) ⌝ }
     ensures { λ r. ⌜ (r ≤ count) × (r ≤ length (now (order .exit))) × FusedOf (rowsIn width n (now (cells .entry))) width (now (joined .exit)) (take r (now (order .exit))) (take count (now (places .exit))) ⌝ }
 {
     fusing::join_sets(cells, n, width, list, count, joined);
-    let mut spare = [0u32; 1024];
-    let m = rows::order_rows(joined, width, count, order, &mut spare);
+    let m = rows::order_rows(joined, width, count, order, places);
     fusing::places_of(joined, width, count, order, m, places);
     m
 }
 
-// The fused table goes to the table buffer, the set list to the set buffer; a call that isn't refused meets demand 3.
+// The fused table goes to the table buffer, the set list to the set buffer. The lists for joined rows have room for the sets.
+pub fn write_fused(
+    t: Table,
+    list: &[u64],
+    count: usize,
+    joined: &mut [u32],
+    order: &mut [u32],
+    places: &mut [u32],
+    table: &mut [u32],
+    sets: &mut [u32],
+) -> ComplementAnswer
+    requires { ⌜ Holds t (idsOf t) (rowsOf t) × ((k : ℕ) → k < t .columns → getD (t .ids) k 0 < 2 ^ 16) ⌝ }
+    requires { ⌜ SetsOf (rowsOf t) (now list) count × (count ≤ maxSets) × (count ≤ length (now list)) ⌝ }
+    requires { ⌜ (count * t .columns ≤ length (now joined)) × (count ≤ length (now order)) × (count ≤ length (now places)) ⌝ }
+    ensures answers { λ r. ⌜ complementSays r ≡ fusedOutcome (idsOf t) (rowsOf t) (length (now (table .entry))) (length (now (sets .entry))) ⌝ }
+    ensures writes { λ r. ⌜ now (table .exit) ≡ afterwards (complementSays r) (imageOf (idsOf t) (fusedRows (rowsOf t))) (now (table .entry)) ⌝ }
+    ensures lists { λ r. ⌜ now (sets .exit) ≡ afterwards (complementSays r) (setList (rowsOf t)) (now (sets .entry)) ⌝ }
+{
+    let columns = t.columns;
+    let rows = fuse_rows(
+        &t.cells,
+        t.rows,
+        columns,
+        list,
+        count,
+        joined,
+        order,
+        places,
+    );
+    let words = 1 + columns + rows * columns;
+    if table.len() < words {
+        return ComplementAnswer::Refused {
+            number: 10,
+            table: 2,
+        };
+    }
+    let set_words = 1 + 4 * count;
+    if sets.len() < set_words {
+        return ComplementAnswer::Refused {
+            number: 11,
+            table: 2,
+        };
+    }
+    let filled = write_table(table, &t.ids, columns, joined, order, rows);
+    fusing::write_sets(sets, list, places, count);
+    ComplementAnswer::Done {
+        rows,
+        words,
+        filled,
+        sets: count,
+        set_words,
+    }
+}
+
+// The lists for joined rows are short where the sets are few: to clear the long ones would take longer than the rest of the call. A call
+// that isn't refused meets demand 3.
 pub fn complement_union(
     a: &[u32],
     b: &[u32],
@@ -72,49 +128,40 @@ pub fn complement_union(
         };
     }
     let t = tables::union_table(a, b, checks.found);
-    let columns = t.columns;
     let mut list = [0u64; 1025];
-    let count = list_sets(&t.cells, t.rows, columns, &mut list);
+    let count = list_sets(&t.cells, t.rows, t.columns, &mut list);
     if 1024 < count {
         return ComplementAnswer::Refused {
             number: 9,
             table: 2,
         };
     }
+    if count <= 64 {
+        let mut joined = [0u32; 1024];
+        let mut order = [0u32; 64];
+        let mut places = [0u32; 64];
+        return write_fused(
+            t,
+            &list,
+            count,
+            &mut joined,
+            &mut order,
+            &mut places,
+            table,
+            sets,
+        );
+    }
     let mut joined = [0u32; 16384];
     let mut order = [0u32; 1024];
     let mut places = [0u32; 1024];
-    let rows = fuse_rows(
-        &t.cells,
-        t.rows,
-        columns,
+    write_fused(
+        t,
         &list,
         count,
         &mut joined,
         &mut order,
         &mut places,
-    );
-    let words = 1 + columns + rows * columns;
-    if table.len() < words {
-        return ComplementAnswer::Refused {
-            number: 10,
-            table: 2,
-        };
-    }
-    let set_words = 1 + 4 * count;
-    if sets.len() < set_words {
-        return ComplementAnswer::Refused {
-            number: 11,
-            table: 2,
-        };
-    }
-    let filled = write_table(table, &t.ids, columns, &joined, &order, rows);
-    fusing::write_sets(sets, &list, &places, count);
-    ComplementAnswer::Done {
-        rows,
-        words,
-        filled,
-        sets: count,
-        set_words,
-    }
+        table,
+        sets,
+    )
 }
