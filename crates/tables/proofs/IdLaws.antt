@@ -1,95 +1,82 @@
--- Ids are rows of one word: what orders rows orders them. Assumes nothing.
+-- The ids of two images: those of the first, and after them those of the second that are new. Assumes nothing.
 use mathlib.Core.Path.{_≡_, refl, sym, _∙_, ap, ap₂}
-use mathlib.Core.List.{List, [], _∷_, _++_, map, flatten}
-use Prim.Native.Nat.{ℕ, zero, suc, _+_, _-_, _*_, _≤_}
-use native.Mathlib.Nat.{le-of-suc-le-suc, not-suc-le-zero, mul-one}
+use mathlib.Core.Bool.{Bool, true, false, not}
+use mathlib.Core.List.{List, [], _∷_, _++_, map, append-nil, append-assoc}
+use Prim.Native.Nat.{ℕ, _+_, _-_, _≤_, _<_}
+use native.Mathlib.Numerals.{add-one}
 use native.Mathlib.Omega.{arith}
-use lib.ListN.{length, take, drop, length-map}
-use lib.Seq.{paste, length-paste, take-paste, take-all, length-take-le}
-use Rattle.definitions.specs.declared.Order.{Order}
-use Rattle.definitions.specs.declared.Order.the-variants.{Before, Same, After}
+use lib.Dec.{eqb}
+use lib.ListN.{length, getD, set, take, drop, length-set, length-map}
+use lib.Seq.{paste, take-all, take-take, take-append-le, take-set-le, take-suc-set, length-take-le}
 use Rattle.definitions.specs.Limits.{maxColumns, maxRows}
+use Rattle.definitions.specs.Lists.{any, keep, distinct}
 use Rattle.definitions.specs.Word.{idOf}
-use Rattle.definitions.specs.Image.{columnCount, imageIds, rowsIn}
+use Rattle.definitions.specs.Image.{columnCount, imageIds}
+use Rattle.definitions.specs.Ascending.{ascending}
+use Rattle.definitions.specs.OuterUnion.{compareWord, unionIds}
 use Rattle.definitions.specs.Questions.{imageNumber}
+use Rattle.definitions.proofs.Lists.{keep-took, keep-left}
 use Rattle.definitions.proofs.Questions.{passed-is}
 use Rattle.definitions.proofs.Images.{passed-ids}
 use Rattle.images.proofs.Parts.{columns-part}
-use Rattle.definitions.specs.Ascending.{put, insert, ascending}
-use Rattle.definitions.specs.OuterUnion.{compareWord, thenBy, compareRow}
 use Rattle.lists.proofs.Pastes.{paste-front}
-use Rattle.rows.specs.Numbers.{rowAt, rowsAt, Ordered}
+use Rattle.tables.specs.Places.{withNew}
+use Rattle.tables.proofs.Smaller.{new-distinct, new-ascending}
 
-abbrev single : ℕ → List ℕ
-single x = x ∷ []
+-- ---- the loop: i ids are looked at, and those that are new stand after the first m
 
-then-same : (o : Order) → thenBy o Same ≡ o
-then-same Before = refl
-then-same Same = refl
-then-same After = refl
+pub record Adding (ids₀ : List ℕ) (m : ℕ) (more : List ℕ) (n i : ℕ) (ids : List ℕ) : Type 0 where
+  pub size : length ids ≡ length ids₀
+  pub looked : i ≤ length more
+  pub some : m ≤ n
+  pub few : n ≤ m + i
+  pub are : take n ids ≡ withNew (take m ids₀) (take i more)
 
-put-single : (o : Order) (x y : ℕ) (rest inserted : List ℕ)
-    → put o (single x) (single y) (map single rest) (map single inserted) ≡ map single (put o x y rest inserted)
-put-single Before x y rest inserted = refl
-put-single Same x y rest inserted = refl
-put-single After x y rest inserted = refl
+module _ (ids₀ : List ℕ) (m : ℕ) (more : List ℕ) (room : m + length more ≤ length ids₀) where
+  abbrev new : ℕ → Bool
+  new id = not (any (eqb id) (take m ids₀))
 
-insert-single : (x : ℕ) (l : List ℕ) → insert compareRow (single x) (map single l) ≡ map single (insert compareWord x l)
-unfolding insert compareRow
-insert-single x [] = refl
-insert-single x (y ∷ l) =
-    ap₂ (λ (o : Order) (r : List (List ℕ)). put o (single x) (single y) (map single l) r) (then-same (compareWord x y)) (insert-single x l)
-    ∙ put-single (compareWord x y) x y l (insert compareWord x l)
+  pub adding-none : Adding ids₀ m more m 0 ids₀
+  unfolding keep
+  adding-none = record { size = refl; looked = omega arith; some = omega arith; few = omega arith; are = sym (append-nil (take m ids₀)) }
 
-ascending-single : (l : List ℕ) → ascending compareRow (map single l) ≡ map single (ascending compareWord l)
-unfolding ascending
-ascending-single [] = refl
-ascending-single (x ∷ l) = ap (insert compareRow (single x)) (ascending-single l) ∙ insert-single x (ascending compareWord l)
+  module _ (n i : ℕ) (ids : List ℕ) (s : Adding ids₀ m more n i ids) (h : i < length more) (d v n′ : ℕ) (ev : v ≡ getD more i d) where
+    known-kept : take m ids ≡ take m ids₀
+    known-kept =
+        let e = length-take-le m ids₀ (omega arith) in
+        sym (take-take m n ids (s .some)) ∙ ap (take m) (s .are) ∙ take-append-le m (take m ids₀) (keep new (take i more)) (omega arith)
+        ∙ take-all m (take m ids₀) (omega arith)
 
-rows-single : (n : ℕ) (w : List ℕ) → n ≤ length w → rowsIn 1 n w ≡ map single (take n w)
-rows-single zero w h = refl
-rows-single (suc n) [] h = absurd (not-suc-le-zero h)
-rows-single (suc n) (x ∷ w) h = ap (λ (l : List (List ℕ)). single x ∷ l) (rows-single n w (le-of-suc-le-suc h))
+    test : (b : Bool) → any (eqb v) (take m ids) ≡ b → new (getD more i d) ≡ not b
+    test b e = ap not (ap₂ (λ (x : ℕ) (l : List ℕ). any (eqb x) l) (sym ev) (sym known-kept) ∙ e)
 
-flatten-single : (l : List ℕ) → flatten (map single l) ≡ l
-unfolding flatten
-flatten-single [] = refl
-flatten-single (x ∷ l) = ap (λ (r : List ℕ). x ∷ r) (flatten-single l)
+    pub adding-known : any (eqb v) (take m ids) ≡ true → n′ ≡ n → Adding ids₀ m more n′ (i + 1) (set ids n v)
+    adding-known e q = record {
+      size = length-set ids n v ∙ s .size;
+      looked = omega arith;
+      some = omega (arith, s .some);
+      few = omega (arith, s .few);
+      are = ap (λ (k : ℕ). take k (set ids n v)) q ∙ take-set-le n ids n v (omega arith) ∙ s .are
+          ∙ ap (λ (l : List ℕ). take m ids₀ ++ l) (sym (keep-left new d more i h (test true e)));
+    }
 
--- the first n words as rows of one word, ascending
-module _ (n : ℕ) (w : List ℕ) (h : n ≤ length w) where
-  singles : ascending compareRow (rowsIn 1 n w) ≡ map single (ascending compareWord (take n w))
-  singles = ap (ascending compareRow) (rows-single n w h) ∙ ascending-single (take n w)
+    pub adding-new : any (eqb v) (take m ids) ≡ false → n′ ≡ n + 1 → Adding ids₀ m more n′ (i + 1) (set ids n v)
+    adding-new e q =
+        let z = s .size in
+        let f = s .few in
+        record {
+          size = length-set ids n v ∙ s .size;
+          looked = omega arith;
+          some = omega (arith, s .some);
+          few = omega (arith, s .few);
+          are = ap (λ (k : ℕ). take k (set ids n v)) (q ∙ add-one n) ∙ take-suc-set ids n v (omega arith)
+              ∙ ap₂ (λ (l : List ℕ) (x : ℕ). l ++ (x ∷ [])) (s .are) ev
+              ∙ append-assoc (take m ids₀) (keep new (take i more)) (getD more i d ∷ [])
+              ∙ ap (λ (l : List ℕ). take m ids₀ ++ l) (sym (keep-took new d more i h (test false e)));
+        }
 
-  pub ids-ordered : flatten (ascending compareRow (rowsIn 1 n w)) ≡ ascending compareWord (take n w)
-  ids-ordered = ap flatten singles ∙ flatten-single (ascending compareWord (take n w))
-
-  pub ids-count : length (ascending compareRow (rowsIn 1 n w)) ≡ length (ascending compareWord (take n w))
-  ids-count = ap length singles ∙ length-map (ascending compareWord (take n w)) single
-
--- ---- the ids of two images, one after the other
-
-pub both-written : (all x y a b : List ℕ) (n m : ℕ) → length a ≡ n → length b ≡ m → n + m ≤ length all → x ≡ paste all 0 a n → y ≡ paste x n b m
-    → take (n + m) y ≡ a ++ b
-both-written all x y a b n m ea eb fits ex ey =
-    let long : length x ≡ length all = ap length ex ∙ length-paste all 0 a n (omega arith) (omega arith) in
-    ap (take (n + m)) ey ∙ take-paste x n b m (omega arith) (omega arith)
-    ∙ ap₂ (λ (p q : List ℕ). p ++ q) (paste-front all a x n ea ex) (take-all m b (omega arith))
-
--- ---- ids written by the numbers of the distinct ones, ascending
-
-module _ (n count : ℕ) (all order ids cur : List ℕ) (h : n ≤ length all) (k : count ≤ length order) (o : Ordered 1 n all (take count order))
-    (e : cur ≡ paste ids 0 (flatten (rowsAt 1 all (take count order))) (count * 1)) where
-  counted : count ≡ length (ascending compareWord (take n all))
-  counted =
-      sym (length-map (take count order) (rowAt 1 all) ∙ length-take-le count order k) ∙ ap length (o .rows) ∙ ids-count n all h
-
-  pub ids-written : (take count cur ≡ ascending compareWord (take n all)) × (count ≡ length (ascending compareWord (take n all)))
-  ids-written = (
-    paste-front ids (ascending compareWord (take n all)) cur count (sym counted)
-        (e ∙ ap₂ (λ (l : List ℕ) (c : ℕ). paste ids 0 l c) (ap flatten (o .rows) ∙ ids-ordered n all h) (mul-one count)),
-    counted,
-  )
+  pub adding-all : (n i : ℕ) (ids : List ℕ) → Adding ids₀ m more n i ids → length more ≤ i → take n ids ≡ withNew (take m ids₀) more
+  adding-all n i ids s h = s .are ∙ ap (withNew (take m ids₀)) (take-all i more h)
 
 -- ---- the column words of an accepted image, as code lends them
 
@@ -108,15 +95,25 @@ columns-of image k ok e =
       few = omega (arith, p .few-columns);
     }
 
--- the ids of two images, as the code copies them
-pub both-copied : (all x y a b p q : List ℕ) (k m : ℕ) → Columns k a p → Columns m b q → 32 ≤ length all
-    → x ≡ paste all 0 (map idOf p) (length p) → y ≡ paste x k (map idOf q) (length q) → (take (k + m) y ≡ imageIds a ++ imageIds b) × (k + m ≤ 32)
-both-copied all x y a b p q k m u v room ex ey =
+-- the ids of two images, as the code writes them
+pub both-added : (all x y a b p q : List ℕ) (k m r : ℕ) → Columns k a p → Columns m b q → x ≡ paste all 0 (map idOf p) (length p)
+    → take r y ≡ withNew (take k x) (map idOf q) → r ≤ k + length q → (take r y ≡ withNew (imageIds a) (imageIds b)) × (r ≤ 32)
+both-added all x y a b p q k m r u v ex ey few =
     let f = u .few in
     let g = v .few in
-    let size : (l : List ℕ) (n : ℕ) → length l ≡ n → length (map idOf l) ≡ n = λ l n e. length-map l idOf ∙ e in (
-      both-written all x y (map idOf p) (map idOf q) k m (size p k (u .size)) (size q m (v .size)) (omega arith)
-          (ex ∙ ap (paste all 0 (map idOf p)) (u .size)) (ey ∙ ap (paste x k (map idOf q)) (v .size))
-          ∙ ap₂ (λ (l r : List ℕ). l ++ r) (u .ids) (v .ids),
+    let z = v .size in (
+      ey ∙ ap₂ withNew (paste-front all (map idOf p) x k (length-map p idOf ∙ u .size) (ex ∙ ap (paste all 0 (map idOf p)) (u .size)) ∙ u .ids) (v .ids),
       omega arith,
     )
+
+-- ---- the distinct ids of two accepted images, in order
+
+module _ (a b : List ℕ) (oa : imageNumber maxRows a ≡ 0) (ob : imageNumber maxRows b ≡ 0) (all : List ℕ)
+    (e : all ≡ withNew (imageIds a) (imageIds b)) where
+  pub both-distinct : distinct eqb all ≡ true
+  both-distinct =
+      ap (distinct eqb) e ∙ new-distinct (imageIds a) (imageIds b) (passed-is maxRows a .0 oa .distinct-ids) (passed-is maxRows b .0 ob .distinct-ids)
+
+  pub both-ascending : ascending compareWord all ≡ unionIds a b
+  unfolding unionIds
+  both-ascending = ap (ascending compareWord) e ∙ new-ascending (imageIds a) (imageIds b)

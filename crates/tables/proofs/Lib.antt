@@ -1,4 +1,6 @@
 -- Laws of the table in work.
-pub mod WidenLaws
+pub mod Smaller
+pub mod Scatter
 pub mod IdLaws
+pub mod WidenLaws
 pub mod UnionLaws

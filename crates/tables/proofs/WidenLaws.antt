@@ -1,53 +1,65 @@
--- The rows of an image, widened one after the other: a turn of the loop, and that rows at places are widened rows. Assumes nothing.
-use mathlib.Core.Path.{_≡_, refl, sym, _∙_, ap, ap₂}
-use mathlib.Core.List.{List, [], _∷_, map, flatten}
+-- The rows of an image, widened one after the other: the places of its columns, and a turn of the loop. Assumes nothing.
+use mathlib.Core.Path.{_≡_, sym, _∙_, ap, ap₂, subst}
+use mathlib.Core.List.{List, [], map, flatten}
 use Prim.Native.Nat.{ℕ, _+_, _-_, _*_, _≤_, _<_}
-use native.Mathlib.Nat.{add-mul, zero-mul, one-mul, add-zero, mul-le-mul-right}
+use native.Mathlib.Nat.{add-mul, zero-mul, one-mul, add-zero}
 use native.Mathlib.Omega.{arith}
-use lib.Dec.{eqb}
 use lib.ListN.{length, getD, take, drop, length-map, List·getD-map}
 use lib.Seq.{paste}
 use Rattle.definitions.specs.Limits.{maxRows}
-use Rattle.definitions.specs.Lists.{place}
+use Rattle.definitions.specs.Word.{idOf}
 use Rattle.definitions.specs.Image.{columnCount, rowCount, cellWords, imageIds, imageRows}
 use Rattle.definitions.specs.OuterUnion.{cellIn, widened, widenedRows}
 use Rattle.definitions.specs.Questions.{imageNumber}
-use Rattle.definitions.proofs.Lists.{map-stands}
+use Rattle.definitions.specs.Statements.{Stands}
+use Rattle.definitions.proofs.Lists.{stands-get, map-stands}
 use Rattle.definitions.proofs.Counts.{flatten-length}
-use Rattle.lists.proofs.Flat.{Wide, flat-row, rows-length, rows-at, row-fits}
-use Rattle.lists.proofs.Pastes.{Pasted, paste-none, pasted-more}
 use Rattle.definitions.proofs.Questions.{passed-is}
+use Rattle.definitions.proofs.Images.{passed-ids, passed-rows, widened-count}
+use Rattle.lists.proofs.Flat.{Wide, flat-row, rows-length, rows-at, row-fits}
+use Rattle.lists.proofs.Pastes.{Pasted, paste-none, pasted-more, paste-front}
 use Rattle.images.proofs.Parts.{row-part}
-use Rattle.tables.specs.Places.{placesOf, cellsAt, rowsAtPlaces}
+use Rattle.tables.specs.Places.{smallerThan, placesIn, scattered, Covers}
+use Rattle.tables.proofs.IdLaws.{Columns}
+use Rattle.tables.proofs.Scatter.{paste-after, scatter-widened, places-within}
 
-pub at-places-wide : (places image : List ℕ) → Wide (length places) (rowsAtPlaces places image)
-at-places-wide places image r h =
-    let m = map-stands (λ row. cellsAt row places) r (imageRows image) h in
-    ap length (m .2) ∙ length-map places (λ p. getD (m .0) p 0)
+widened-length : (union ids row : List ℕ) → length (widened union ids row) ≡ length union
+unfolding widened
+widened-length union ids row = length-map union (cellIn ids row)
 
-pub at-places-count : (places image : List ℕ) → length (rowsAtPlaces places image) ≡ rowCount image
-at-places-count places image =
-    length-map (imageRows image) (λ row. cellsAt row places) ∙ rows-length (columnCount image) (rowCount image) (cellWords image)
+pub widened-wide : (union image : List ℕ) → Wide (length union) (widenedRows union image)
+unfolding widenedRows
+widened-wide union image r h =
+    let m = map-stands (widened union (imageIds image)) r (imageRows image) h in
+    ap length (m .2) ∙ widened-length union (imageIds image) (m .0)
+
+pub widened-words : (union image : List ℕ) → length (flatten (widenedRows union image)) ≡ rowCount image * length union
+widened-words union image =
+    flatten-length (length union) (widenedRows union image) (widened-wide union image) ∙ ap (λ (k : ℕ). k * length union) (widened-count union image)
+
+widened-row : (union image : List ℕ) (i : ℕ) → getD (widenedRows union image) i (widened union (imageIds image) []) ≡ widened union (imageIds image) (getD (imageRows image) i [])
+unfolding widenedRows
+widened-row union image i = List·getD-map (widened union (imageIds image)) (imageRows image) i []
 
 -- the first i rows are written; the next one begins at `from`, and goes to `to`; k is the number of columns
-pub record Widening (image places cells₀ : List ℕ) (at k i from to : ℕ) (cells : List ℕ) : Type 0 where
+pub record Widening (image union cells₀ : List ℕ) (at k i from to : ℕ) (cells : List ℕ) : Type 0 where
   pub rows : i ≤ rowCount image
   pub source : from ≡ 1 + k + i * k
-  pub target : to ≡ at + i * length places
-  pub written : Pasted cells₀ at (flatten (rowsAtPlaces places image)) (i * length places) cells
+  pub target : to ≡ at + i * length union
+  pub written : Pasted cells₀ at (flatten (widenedRows union image)) (i * length union) cells
 
-module _ (image places cells₀ : List ℕ) (at k : ℕ) (ok : imageNumber maxRows image ≡ 0) (ek : k ≡ columnCount image)
-    (fits : at + rowCount image * length places ≤ length cells₀) where
-  pub widen-starts : Widening image places cells₀ at k 0 (1 + k) at cells₀
+module _ (image union cells₀ : List ℕ) (at k : ℕ) (ok : imageNumber maxRows image ≡ 0) (ek : k ≡ columnCount image)
+    (fits : at + rowCount image * length union ≤ length cells₀) where
+  pub widen-starts : Widening image union cells₀ at k 0 (1 + k) at cells₀
   widen-starts = record {
     rows = omega arith;
     source = sym (ap (λ (x : ℕ). 1 + k + x) (zero-mul k) ∙ add-zero (1 + k));
-    target = sym (ap (λ (x : ℕ). at + x) (zero-mul (length places)) ∙ add-zero at);
-    written = let e = zero-mul (length places) in
-        rw e (paste-none cells₀ at (flatten (rowsAtPlaces places image)));
+    target = sym (ap (λ (x : ℕ). at + x) (zero-mul (length union)) ∙ add-zero at);
+    written = let e = zero-mul (length union) in
+        rw e (paste-none cells₀ at (flatten (widenedRows union image)));
   }
 
-  module _ (i from to : ℕ) (cells : List ℕ) (v : Widening image places cells₀ at k i from to cells) (more : i < rowCount image) where
+  module _ (i from to : ℕ) (cells : List ℕ) (v : Widening image union cells₀ at k i from to cells) (more : i < rowCount image) where
     pub source-within : from + k ≤ length image
     source-within =
         let a = passed-is maxRows image .0 ok in
@@ -57,48 +69,75 @@ module _ (image places cells₀ : List ℕ) (at k : ℕ) (ok : imageNumber maxRo
         let e = ap (λ (x : ℕ). i * x) ek in
         omega arith
 
-    pub target-within : to + length places ≤ length cells₀
-    target-within = let f = row-fits (length places) (rowCount image) i more in let g = v .target in omega arith
+    pub target-within : to + length union ≤ length cells₀
+    target-within = let f = row-fits (length union) (rowCount image) i more in let g = v .target in omega arith
 
     row-is : take (from + k - from) (drop from image) ≡ getD (imageRows image) i []
     row-is = row-part k image ek i from (v .source) ∙ sym (rows-at (columnCount image) (rowCount image) i (cellWords image) more)
 
-    pub widen-turn : (new : List ℕ) → new ≡ paste cells to (cellsAt (take (from + k - from) (drop from image)) places) (length places)
-        → Widening image places cells₀ at k (i + 1) (from + k) (to + length places) new
-    widen-turn new e =
-        let f = row-fits (length places) (rowCount image) i more in
-        let total : length (flatten (rowsAtPlaces places image)) ≡ rowCount image * length places =
-        flatten-length (length places) (rowsAtPlaces places image) (at-places-wide places image)
-        ∙ ap (λ (x : ℕ). x * length places) (at-places-count places image) in
-        let count = at-places-count places image in
-        let g = v .target in
-        let s = v .source in
-        let step : (x : ℕ) → (i + 1) * x ≡ i * x + x = λ x. add-mul i 1 x ∙ ap (λ (y : ℕ). i * x + y) (one-mul x) in
-        let next = cellsAt (take (from + k - from) (drop from image)) places in
-        let here : take (length places) (drop (i * length places) (flatten (rowsAtPlaces places image))) ≡ next =
-        flat-row (length places) (cellsAt [] places) (rowsAtPlaces places image) i (at-places-wide places image) (omega arith)
-        ∙ List·getD-map (λ row. cellsAt row places) (imageRows image) i []
-        ∙ ap (λ (row : List ℕ). cellsAt row places) (sym row-is) in
-        let p = pasted-more cells₀ at (flatten (rowsAtPlaces places image)) (i * length places) cells new next (length places) to
-        (omega arith) (omega arith) (v .written) (v .target) (length-map places (λ p. getD (take (from + k - from) (drop from image)) p 0)) here e in
-        record {
-          rows = omega arith;
-          source = let z = step k in omega arith;
-          target = let z = step (length places) in omega arith;
-          written = rw (step (length places)) p;
-        }
+    row-even : length (take (from + k - from) (drop from image)) ≡ length (imageIds image)
+    row-even =
+        let p = passed-is maxRows image .0 ok in
+        let count : length (imageRows image) ≡ rowCount image = rows-length (columnCount image) (rowCount image) (cellWords image) in
+        ap length row-is ∙ passed-rows maxRows image p (getD (imageRows image) i []) (stands-get [] (imageRows image) i (omega arith))
+        ∙ sym (passed-ids maxRows image p)
 
--- ---- rows at the places of the union's columns are widened rows
+    module _ (places : List ℕ) (covers : Covers union image) (ep : places ≡ placesIn union (imageIds image)) where
+      -- each cell of the row has a place, within the cells
+      pub cells-within : (length (take (from + k - from) (drop from image)) ≤ length places) × ((p : ℕ) → Stands p places → to + p < length cells)
+      cells-within =
+          let count : length places ≡ length (imageIds image) = ap length ep ∙ length-map (imageIds image) _ in
+          let e = row-even in
+          let f = target-within in
+          let z = v .written .size in (
+            omega arith,
+            λ p h. let w = places-within union (imageIds image) (covers .rising) (covers .has) p (subst (Stands p) ep h) in omega arith,
+          )
 
-places-cells : (union ids row : List ℕ) → cellsAt row (placesOf ids union) ≡ widened union ids row
-unfolding widened
-places-cells [] ids row = refl
-places-cells (id ∷ union) ids row = ap (λ (l : List ℕ). cellIn ids row id ∷ l) (places-cells union ids row)
+      -- what is not yet written is empty
+      next-empty : ((j : ℕ) → at ≤ j → getD cells₀ j 0 ≡ 0) → (j : ℕ) → j < length union → getD cells (to + j) 0 ≡ 0
+      next-empty empty j h =
+          let f = row-fits (length union) (rowCount image) i more in
+          let g = v .target in
+          let t = widened-words union image in
+          ap (λ (l : List ℕ). getD l (to + j) 0) (v .written .words)
+          ∙ paste-after cells₀ at (flatten (widenedRows union image)) (i * length union) (omega arith) (omega arith) (to + j) (omega arith)
+          ∙ empty (to + j) (omega arith)
 
-pub places-rows : (union image : List ℕ) → rowsAtPlaces (placesOf (imageIds image) union) image ≡ widenedRows union image
-unfolding widenedRows
-places-rows union image = each (imageRows image)
-  where
-    each : (rs : List (List ℕ)) → map (λ row. cellsAt row (placesOf (imageIds image) union)) rs ≡ map (widened union (imageIds image)) rs
-    each [] = refl
-    each (r ∷ rs) = ap₂ (λ (x : List ℕ) (l : List (List ℕ)). x ∷ l) (places-cells union (imageIds image) r) (each rs)
+      pub widen-turn : ((j : ℕ) → at ≤ j → getD cells₀ j 0 ≡ 0) → (new : List ℕ)
+          → new ≡ scattered cells to places (take (from + k - from) (drop from image)) → Widening image union cells₀ at k (i + 1) (from + k) (to + length union) new
+      widen-turn empty new e =
+          let w = length union in
+          let ids = imageIds image in
+          let row = take (from + k - from) (drop from image) in
+          let next = widened union ids row in
+          let f = row-fits w (rowCount image) i more in
+          let g = v .target in
+          let s = v .source in
+          let z = v .written .size in
+          let t = widened-words union image in
+          let count = widened-count union image in
+          let fits-next = target-within in
+          let step : (x : ℕ) → (i + 1) * x ≡ i * x + x = λ x. add-mul i 1 x ∙ ap (λ (y : ℕ). i * x + y) (one-mul x) in
+          let here : take w (drop (i * w) (flatten (widenedRows union image))) ≡ next =
+          flat-row w (widened union ids []) (widenedRows union image) i (widened-wide union image) (omega arith)
+          ∙ widened-row union image i ∙ ap (widened union ids) (sym row-is) in
+          let wide : new ≡ paste cells to next w =
+          e ∙ ap (λ (l : List ℕ). scattered cells to l row) ep
+          ∙ scatter-widened union ids row cells to (covers .rising) (passed-is maxRows image .0 ok .distinct-ids) (covers .has) row-even (omega arith) (next-empty empty) in
+          let p = pasted-more cells₀ at (flatten (widenedRows union image)) (i * w) cells new next w to
+          (omega arith) (omega arith) (v .written) (v .target) (widened-length union ids row) here wide in
+          record {
+            rows = omega arith;
+            source = let z = step k in omega arith;
+            target = let z = step w in omega arith;
+            written = rw (step w) p;
+          }
+
+-- the places of the columns of an image, as the code writes them
+pub places-written : (union image part d cur : List ℕ) (k : ℕ) → Columns k image part → cur ≡ paste d 0 (placesIn union (map idOf part)) (length part)
+    → take k cur ≡ placesIn union (imageIds image)
+places-written union image part d cur k u e =
+    let count : length (imageIds image) ≡ k = sym (ap length (u .ids)) ∙ length-map part idOf ∙ u .size in
+    paste-front d (placesIn union (imageIds image)) cur k (length-map (imageIds image) (λ id. smallerThan id union) ∙ count)
+    (e ∙ ap₂ (λ (l : List ℕ) (n : ℕ). paste d 0 (placesIn union l) n) (u .ids) (u .size))

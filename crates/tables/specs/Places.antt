@@ -1,17 +1,33 @@
--- Where the columns of a union stand in a table, and the cells of a row at such places.
-use mathlib.Core.List.{List, map}
-use Prim.Native.Nat.{ℕ}
-use lib.Dec.{eqb}
-use lib.ListN.{getD}
-use Rattle.definitions.specs.Lists.{place}
-use Rattle.definitions.specs.Image.{imageRows}
+-- The places of ids in a union, and the cells of a row written at such places.
+use mathlib.Core.Bool.{not}
+use mathlib.Core.List.{List, [], _∷_, _++_, map}
+use Prim.Native.Nat.{ℕ, _+_}
+use lib.Dec.{eqb, ltb}
+use lib.ListN.{length, set}
+use Rattle.definitions.specs.Lists.{any, keep}
+use Rattle.definitions.specs.Image.{imageIds}
+use Rattle.definitions.specs.OuterUnion.{compareWord}
+use Rattle.definitions.specs.Statements.{Stands, Rising}
 
-abbrev pub placesOf : List ℕ → List ℕ → List ℕ
-placesOf ids union = map (λ id. place (eqb id) ids) union
+-- ids, and after them those of a second list that are none of them
+abbrev pub withNew : List ℕ → List ℕ → List ℕ
+withNew ids more = ids ++ keep (λ id. not (any (eqb id) ids)) more
 
-abbrev pub cellsAt : List ℕ → List ℕ → List ℕ
-cellsAt row places = map (λ p. getD row p 0) places
+-- how many words of a list are smaller
+abbrev pub smallerThan : ℕ → List ℕ → ℕ
+smallerThan x words = length (keep (λ y. ltb y x) words)
 
--- each row of an image, at the places
-abbrev pub rowsAtPlaces : List ℕ → List ℕ → List (List ℕ)
-rowsAtPlaces places image = map (λ row. cellsAt row places) (imageRows image)
+-- the place of each id in an ascending list
+abbrev pub placesIn : List ℕ → List ℕ → List ℕ
+placesIn union ids = map (λ id. smallerThan id union) ids
+
+-- the cells of a row written one by one, each at its place from at
+unfoldable pub scattered : List ℕ → ℕ → List ℕ → List ℕ → List ℕ
+scattered cells at [] row = cells
+scattered cells at (p ∷ places) [] = cells
+scattered cells at (p ∷ places) (v ∷ row) = scattered (set cells (at + p) v) at places row
+
+-- a union's ids are strictly ascending and have every id of the image
+pub record Covers (union image : List ℕ) : Type 0 where
+  pub rising : Rising compareWord union
+  pub has : (id : ℕ) → Stands id (imageIds image) → Stands id union

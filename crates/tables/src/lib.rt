@@ -1,5 +1,7 @@
 // The table in work, and the outer union of two accepted images in it.
 ghost use mathlib.Core.Path.{_≡_};
+ghost use Prim.Native.Nat.{ℕ};
+ghost use lib.ListN.{getD};
 
 mod columns;
 mod union;
@@ -7,6 +9,7 @@ mod widen;
 
 pub use columns::union_ids;
 pub use union::union_table;
+pub use union::widened_table;
 
 // A table in work: its cells row by row, its column ids and both counts.
 pub struct Table {
@@ -30,9 +33,9 @@ impl Table {
         columns: 0,
     };
 
-    // A table with columns and no rows.
+    // A table with columns, no rows and empty cells.
     pub fn new(ids: [u32; 16], columns: usize) -> Table
-        ensures { λ r. ⌜ (r .ids ≡ ids) × (r .columns ≡ columns) × (r .rows ≡ 0) ⌝ }
+        ensures { λ r. ⌜ (r .ids ≡ ids) × (r .columns ≡ columns) × (r .rows ≡ 0) × ((k : ℕ) → getD (r .cells) k 0 ≡ 0) ⌝ }
     {
         let mut t = Self::EMPTY;
         t.ids = ids;

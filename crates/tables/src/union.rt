@@ -1,14 +1,14 @@
 // T, the outer union of two accepted images, in a table in work.
 ghost use mathlib.Core.Path.{_≡_};
 ghost use mathlib.Core.List.{_++_};
-ghost use Prim.Native.Nat.{_+_, _*_, _≤_};
-ghost use lib.ListN.{length, take};
+ghost use Prim.Native.Nat.{ℕ, _+_, _*_, _≤_};
+ghost use lib.ListN.{length, take, getD};
 ghost use Rattle.definitions.specs.Limits.{maxColumns, maxRows, maxUnionRows};
-ghost use Rattle.definitions.specs.Image.{rowCount, rowsIn};
+ghost use Rattle.definitions.specs.Image.{rowsIn};
 ghost use Rattle.definitions.specs.Ascending.{ascending};
 ghost use Rattle.definitions.specs.OuterUnion.{compareRow, unionIds, widenedRows, unionRows};
 ghost use Rattle.definitions.specs.Questions.{imageNumber};
-ghost use Rattle.tables.specs.Table.{Holds};
+ghost use Rattle.tables.specs.Table.{bothRows, Holds};
 use crate::Ids;
 use crate::Table;
 use crate::widen::widen_table;
@@ -23,16 +23,16 @@ pub fn first_words(ids: &[u32], n: usize) -> [u32; 16]
     out
 }
 
-// Writes the rows of two accepted images, widened to the columns of the union, one after the other; how many they are.
-pub fn widen_both(a: &[u32], b: &[u32], union: &[u32], cells: &mut [u32]) -> usize
-    requires { ⌜ (imageNumber maxRows (now a) ≡ 0) × (imageNumber maxRows (now b) ≡ 0) × (length (now union) ≤ maxColumns) × (maxUnionRows * maxColumns ≤ length (now cells)) ⌝ }
-    ensures { λ r. ⌜ (rowsIn (length (now (union .entry))) r (now (cells .exit)) ≡ widenedRows (now (union .entry)) (now (a .entry)) ++ widenedRows (now (union .entry)) (now (b .entry))) × (r ≤ maxUnionRows) ⌝ }
+// Writes the rows of two accepted images, widened to the columns of the first n ids, one after the other over empty cells; how many they are.
+pub fn widen_both(a: &[u32], b: &[u32], ids: &[u32], n: usize, cells: &mut [u32; 1024]) -> usize
+    requires { ⌜ (imageNumber maxRows (now a) ≡ 0) × (imageNumber maxRows (now b) ≡ 0) × (n ≤ maxColumns) × (n ≤ length (now ids)) × (take n (now ids) ≡ unionIds (now a) (now b)) ⌝ }
+    requires { ⌜ ((k : ℕ) → getD (now cells) k 0 ≡ 0) ⌝ }
+    ensures { λ r. ⌜ (rowsIn n r (now (cells .exit)) ≡ widenedRows (take n (now (ids .entry))) (now (a .entry)) ++ widenedRows (take n (now (ids .entry))) (now (b .entry))) × (r ≤ maxUnionRows) × (length (now (cells .exit)) ≡ maxUnionRows * maxColumns) ⌝ }
 {
     let first = words::rows(a[0]) as usize;
     let second = words::rows(b[0]) as usize;
-    let width = union.len();
-    widen_table(a, union, cells, 0);
-    widen_table(b, union, cells, first * width);
+    widen_table(a, &ids[..n], cells, 0);
+    widen_table(b, &ids[..n], cells, first * n);
     first + second
 }
 
@@ -50,12 +50,25 @@ pub fn order_cells(wide: &[u32], width: usize, n: usize, cells: &mut [u32]) -> u
 
 // Writes T, the distinct widened rows of two accepted images, ascending, in the columns of the first n ids; how many rows it has.
 pub fn union_rows(a: &[u32], b: &[u32], ids: &[u32], n: usize, cells: &mut [u32; 1024]) -> usize
-    requires { ⌜ (imageNumber maxRows (now a) ≡ 0) × (imageNumber maxRows (now b) ≡ 0) × (n ≤ maxColumns) × (n ≤ length (now ids)) ⌝ }
+    requires { ⌜ (imageNumber maxRows (now a) ≡ 0) × (imageNumber maxRows (now b) ≡ 0) × (n ≤ maxColumns) × (n ≤ length (now ids)) × (take n (now ids) ≡ unionIds (now a) (now b)) ⌝ }
     ensures { λ r. ⌜ (rowsIn n r (now (cells .exit)) ≡ ascending compareRow (widenedRows (take n (now (ids .entry))) (now (a .entry)) ++ widenedRows (take n (now (ids .entry))) (now (b .entry)))) × (r ≤ maxUnionRows) × (length (now (cells .exit)) ≡ maxUnionRows * maxColumns) ⌝ }
 {
     let mut wide = [0u32; 1024];
-    let count = widen_both(a, b, &ids[..n], &mut wide);
+    let count = widen_both(a, b, ids, n, &mut wide);
     order_cells(&wide, n, count, cells)
+}
+
+// The rows of two accepted images in the columns of the union, one after the other, as a table in work.
+pub fn widened_table(a: &[u32], b: &[u32], found: Ids) -> Table
+    requires { ⌜ (imageNumber maxRows (now a) ≡ 0) × (imageNumber maxRows (now b) ≡ 0) ⌝ }
+    requires { ⌜ (take (found .count) (found .ids) ≡ unionIds (now a) (now b)) × (found .count ≡ length (unionIds (now a) (now b))) × (found .count ≤ maxColumns) ⌝ }
+    ensures { λ r. ⌜ Holds r (unionIds (now (a .entry)) (now (b .entry))) (bothRows (now (a .entry)) (now (b .entry))) ⌝ }
+{
+    let count = found.count;
+    let mut t = Table::new(first_words(&found.ids, count), count);
+    let rows = widen_both(a, b, &found.ids, count, &mut t.cells);
+    t.rows = rows;
+    t
 }
 
 // The outer union of two accepted images as a table in work.

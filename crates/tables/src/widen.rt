@@ -1,76 +1,52 @@
 // The rows of an image, widened to the columns of a union.
 ghost use mathlib.Core.Path.{_≡_};
 ghost use mathlib.Core.List.{map, flatten};
-ghost use Prim.Native.Nat.{_+_, _*_, _≤_};
-ghost use lib.Dec.{eqb};
+ghost use Prim.Native.Nat.{ℕ, _+_, _*_, _≤_, _<_};
 ghost use lib.ListN.{length, getD};
 ghost use lib.Seq.{paste};
-ghost use Rattle.definitions.specs.Lists.{place};
 ghost use Rattle.definitions.specs.Limits.{maxColumns, maxRows};
 ghost use Rattle.definitions.specs.Word.{idOf};
-ghost use Rattle.definitions.specs.Image.{rowCount};
+ghost use Rattle.definitions.specs.Image.{imageIds, rowCount};
 ghost use Rattle.definitions.specs.OuterUnion.{widenedRows};
+ghost use Rattle.definitions.specs.Statements.{Stands};
 ghost use Rattle.definitions.specs.Questions.{imageNumber};
-ghost use Rattle.tables.specs.Places.{placesOf, cellsAt, rowsAtPlaces};
+ghost use Rattle.tables.specs.Places.{placesIn, scattered, Covers};
+use crate::columns::smaller;
 
-// Where the column with an id stands among column words; their number where none has it.
-pub fn column_place(columns: &[u32], id: u32) -> usize
-    ensures { λ r. ⌜ r ≡ place (eqb id) (map idOf (now (columns .entry))) ⌝ }
-{
-    let mut i = 0;
-    while i < columns.len() {
-        if id == words::id(columns[i]) {
-            return i;
-        }
-        i += 1;
-    }
-    i
-}
-
-// Where each column of the union stands among column words.
-pub fn column_places(union: &[u32], columns: &[u32], places: &mut [usize])
-    requires { ⌜ length (now union) ≤ length (now places) ⌝ }
-    ensures { λ r. ⌜ now (places .exit) ≡ paste (now (places .entry)) 0 (placesOf (map idOf (now (columns .entry))) (now (union .entry))) (length (now (union .entry))) ⌝ }
+// Where each column word's id stands in the union.
+pub fn column_places(columns: &[u32], union: &[u32], places: &mut [usize])
+    requires { ⌜ (length (now columns) ≤ length (now places)) × (length (now union) ≤ 32) ⌝ }
+    ensures { λ r. ⌜ now (places .exit) ≡ paste (now (places .entry)) 0 (placesIn (now (union .entry)) (map idOf (now (columns .entry)))) (length (now (columns .entry))) ⌝ }
 {
     let mut j = 0;
-    while j < union.len() {
-        places[j] = column_place(columns, union[j]);
+    while j < columns.len() {
+        places[j] = smaller(union, words::id(columns[j]));
         j += 1;
     }
 }
 
-// The cell of a row at a place, the empty cell past its end.
-pub fn cell_at(row: &[u32], p: usize) -> u32
-    ensures { λ r. ⌜ r ≡ getD (now (row .entry)) p 0 ⌝ }
-{
-    if p < row.len() {
-        return row[p];
-    }
-    0
-}
-
-// Writes the cells of a row at the places over the cells from at.
+// Writes each cell of a row at its place from at.
 pub fn widen_row(row: &[u32], places: &[usize], cells: &mut [u32], at: usize)
-    requires { ⌜ at + length (now places) ≤ length (now cells) ⌝ }
-    ensures { λ r. ⌜ now (cells .exit) ≡ paste (now (cells .entry)) at (cellsAt (now (row .entry)) (now (places .entry))) (length (now (places .entry))) ⌝ }
+    requires { ⌜ (length (now row) ≤ length (now places)) × ((p : ℕ) → Stands p (now places) → at + p < length (now cells)) ⌝ }
+    ensures { λ r. ⌜ now (cells .exit) ≡ scattered (now (cells .entry)) at (now (places .entry)) (now (row .entry)) ⌝ }
 {
     let mut j = 0;
-    while j < places.len() {
-        cells[at + j] = cell_at(row, places[j]);
+    while j < row.len() {
+        cells[at + places[j]] = row[j];
         j += 1;
     }
 }
 
-// Writes the rows of an accepted image, each at the places, over the cells from at.
-pub fn widen_rows(image: &[u32], places: &[usize], cells: &mut [u32], at: usize)
-    requires { ⌜ imageNumber maxRows (now image) ≡ 0 ⌝ }
-    requires { ⌜ at + rowCount (now image) * length (now places) ≤ length (now cells) ⌝ }
-    ensures { λ r. ⌜ now (cells .exit) ≡ paste (now (cells .entry)) at (flatten (rowsAtPlaces (now (places .entry)) (now (image .entry)))) (rowCount (now (image .entry)) * length (now (places .entry))) ⌝ }
+// Writes the rows of an accepted image, each cell at its place, over the cells from at.
+pub fn widen_rows(image: &[u32], union: &[u32], places: &[usize], cells: &mut [u32], at: usize)
+    requires { ⌜ (imageNumber maxRows (now image) ≡ 0) × Covers (now union) (now image) × (now places ≡ placesIn (now union) (imageIds (now image))) ⌝ }
+    requires { ⌜ (at + rowCount (now image) * length (now union) ≤ length (now cells)) × ((k : ℕ) → at ≤ k → getD (now cells) k 0 ≡ 0) ⌝ }
+    ensures { λ r. ⌜ now (cells .exit) ≡ paste (now (cells .entry)) at (flatten (widenedRows (now (union .entry)) (now (image .entry)))) (rowCount (now (image .entry)) * length (now (union .entry))) ⌝ }
 {
     let header = image[0];
     let columns = words::columns(header) as usize;
     let rows = words::rows(header) as usize;
-    let width = places.len();
+    let width = union.len();
     let mut i = 0;
     let mut from = 1 + columns;
     let mut to = at;
@@ -83,15 +59,15 @@ pub fn widen_rows(image: &[u32], places: &[usize], cells: &mut [u32], at: usize)
     }
 }
 
-// Writes the rows of an accepted image, widened to the columns of the union, over the cells from at.
+// Writes the rows of an accepted image, widened to the columns of the union, over the empty cells from at.
 pub fn widen_table(image: &[u32], union: &[u32], cells: &mut [u32], at: usize)
-    requires { ⌜ (imageNumber maxRows (now image) ≡ 0) × (length (now union) ≤ maxColumns) ⌝ }
-    requires { ⌜ at + rowCount (now image) * length (now union) ≤ length (now cells) ⌝ }
+    requires { ⌜ (imageNumber maxRows (now image) ≡ 0) × (length (now union) ≤ maxColumns) × Covers (now union) (now image) ⌝ }
+    requires { ⌜ (at + rowCount (now image) * length (now union) ≤ length (now cells)) × ((k : ℕ) → at ≤ k → getD (now cells) k 0 ≡ 0) ⌝ }
     ensures { λ r. ⌜ now (cells .exit) ≡ paste (now (cells .entry)) at (flatten (widenedRows (now (union .entry)) (now (image .entry)))) (rowCount (now (image .entry)) * length (now (union .entry))) ⌝ }
 {
     let mut places = [0usize; 16];
-    let width = union.len();
-    let end = 1 + words::columns(image[0]) as usize;
-    column_places(union, &image[1..end], &mut places);
-    widen_rows(image, &places[..width], cells, at);
+    let columns = words::columns(image[0]) as usize;
+    let end = 1 + columns;
+    column_places(&image[1..end], union, &mut places);
+    widen_rows(image, union, &places[..columns], cells, at);
 }

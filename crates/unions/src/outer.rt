@@ -1,9 +1,9 @@
-// Outer union: T as an image.
+// Outer union: T as an image. The rows stay where they were widened; their numbers are ordered.
 ghost use mathlib.Core.Path.{_≡_};
 ghost use lib.ListN.{length};
 ghost use Rattle.definitions.specs.Answer.{outerSays, afterwards};
 ghost use Rattle.definitions.specs.Calls.{outerImage, outerOutcome};
-use crate::image::write_head;
+use crate::image::write_table;
 use crate::questions::check_pair;
 use definitions::OuterAnswer;
 
@@ -19,9 +19,11 @@ pub fn outer_union(a: &[u32], b: &[u32], table: &mut [u32]) -> OuterAnswer
             table: checks.table,
         };
     }
-    let t = tables::union_table(a, b, checks.found);
-    let rows = t.rows;
+    let t = tables::widened_table(a, b, checks.found);
     let columns = t.columns;
+    let mut order = [0u32; 64];
+    let mut spare = [0u32; 64];
+    let rows = rows::order_rows(&t.cells, columns, t.rows, &mut order, &mut spare);
     let words = 1 + columns + rows * columns;
     if table.len() < words {
         return OuterAnswer::Refused {
@@ -29,9 +31,7 @@ pub fn outer_union(a: &[u32], b: &[u32], table: &mut [u32]) -> OuterAnswer
             table: 2,
         };
     }
-    let filled = patterns::count_rows(&t.cells, rows, columns);
-    write_head(table, rows, &t.ids, columns);
-    rows::write_words(table, 1 + columns, &t.cells, rows * columns);
+    let filled = write_table(table, &t.ids, columns, &t.cells, &order, rows);
     OuterAnswer::Done {
         rows,
         words,

@@ -1,5 +1,4 @@
 -- The numbers of the distinct rows, ascending, and the rows written by them.
-use mathlib.Core.Path.{_≡_, _∙_}
 use lib.ListN.{length, take}
 use native.Mathlib.Omega.{arith}
 use Rattle.definitions.specs.Limits.{maxUnionRows}

@@ -1,7 +1,5 @@
 -- The columns of the union and T stand in the table.
-use mathlib.Core.Path.{_∙_, ap}
-use lib.ListN.{length, take}
-use Rattle.tables.proofs.UnionLaws.{table-holds}
+use Rattle.tables.proofs.UnionLaws.{union-holds}
 use borrow.Author.Needs.{needs}
 use Rattle.tables.proofs.union.union_table.Statement.{statement}
 use Rattle.tables.proofs.union.union_table.Tie as tie
@@ -18,11 +16,9 @@ union-rows-requires c κs = search needs
 returns : tie.Need-returns
 returns c =
     let s = c .before .before .before .before .before .before .before .before .before .before .before .before in
+    let p = s .pre .1 in
     let n = c .before .before .before .before .before .new .ensures in
-    let f = c .before .before .before .before .before .before .first-words .ensures in
-    table-holds (s .args .a .now) (s .args .b .now) (s .args .t3 .ids) (s .args .t3 .count) _ (s .pre .1 .0) (s .pre .1 .1) (s .pre .1 .2)
-    (n .1) (ap (take (s .args .t3 .count)) (n .0) ∙ f .0) (ap length (n .0) ∙ f .1) (c .union-rows .ensures .2) (c .union-rows .ensures .0) (c .union-rows .ensures .1)
+    union-holds (s .args .a .now) (s .args .b .now) (s .args .t3 .ids) _ (s .args .t3 .count) _ (p .0) (p .1) (p .2) (n .0) (n .1) (c .before .before .before .before .before .before .first-words .ensures) (c .union-rows .ensures)
 
 pub union-table-spec : {M : Type 1} → statement M
-union-table-spec =
-    tie.close (tie.spec first-words-requires new-requires union-rows-requires returns)
+union-table-spec = tie.close (tie.spec first-words-requires new-requires union-rows-requires returns)

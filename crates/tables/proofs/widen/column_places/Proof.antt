@@ -1,42 +1,43 @@
 -- The places of the columns passed stand in the list.
-use borrow.Author.Needs.{needs}
-use Prim.Native.Nat.{ℕ, _-_, _≤_}
-use mathlib.Core.Path.{refl, sym, _∙_}
+use mathlib.Core.Path.{sym, _∙_, ap}
 use mathlib.Core.List.{map}
+use Prim.Native.Nat.{ℕ, _-_, _≤_}
 use native.Mathlib.Nat.{zero-add}
 use native.Mathlib.Omega.{arith}
-use lib.Dec.{eqb}
-use lib.ListN.{length, getD, length-map, List·getD-map}
-use Rattle.definitions.specs.Lists.{place}
+use lib.ListN.{length, length-map, List·getD-map}
 use Rattle.definitions.specs.Word.{idOf}
 use Rattle.lists.proofs.Pastes.{Pasted, paste-none, paste-turn, paste-all}
-use Rattle.tables.specs.Places.{placesOf, cellsAt}
+use Rattle.tables.specs.Places.{smallerThan, placesIn}
+use borrow.Author.Needs.{needs}
 use Rattle.tables.proofs.widen.column_places.Statement.{statement}
 use Rattle.tables.proofs.widen.column_places.Tie as tie
 
 abbrev Inv-loop : tie.InvT-loop
-Inv-loop union columns places₀ j₀ places j = (j ≤ length union) × Pasted places₀ 0 (placesOf (map idOf columns) union) j places
+Inv-loop columns union places₀ j₀ places j = (j ≤ length columns) × Pasted places₀ 0 (placesIn union (map idOf columns)) j places
 
 abbrev μ-loop : tie.MeasureT-loop
-μ-loop union columns places₀ j₀ places j = length union - j
+μ-loop columns union places₀ j₀ places j = length columns - j
 
 loop-holds : tie.Need-loop-holds Inv-loop μ-loop
-loop-holds c = let a = c .before .before .before .args in (search needs, paste-none (a .places .now) 0 (placesOf (map idOf (a .columns .now)) (a .union .now)))
+loop-holds c = let a = c .before .before .before .args in (search needs, paste-none (a .places .now) 0 (placesIn (a .union .now) (map idOf (a .columns .now))))
 
-mul-column-place : tie.Need-mul-column-place Inv-loop μ-loop
-mul-column-place c = search needs
+mul-id : tie.Need-mul-id Inv-loop μ-loop
+mul-id c = search needs
 
-shared-slice-read-column-place : tie.Need-shared-slice-read-column-place Inv-loop μ-loop
-shared-slice-read-column-place c = search needs
+shared-slice-read-id : tie.Need-shared-slice-read-id Inv-loop μ-loop
+shared-slice-read-id c = search needs
 
-column-place-requires : tie.Need-column-place-requires Inv-loop μ-loop
-column-place-requires c κs = search needs
+id-requires : tie.Need-id-requires Inv-loop μ-loop
+id-requires c κs = search needs
+
+smaller-requires : tie.Need-smaller-requires Inv-loop μ-loop
+smaller-requires c κs = search needs
 
 mul-places : tie.Need-mul-places Inv-loop μ-loop
 mul-places c = search needs
 
 slice-write-places : tie.Need-slice-write-places Inv-loop μ-loop
-slice-write-places c = let z = c .before .before .before .loop .inv .1 .size in search needs
+slice-write-places c = let z = c .before .before .before .before .loop .inv .1 .size in search needs
 
 add-j : tie.Need-add-j Inv-loop μ-loop
 add-j c = search needs
@@ -45,20 +46,27 @@ loop-less : tie.Need-loop-less Inv-loop μ-loop
 loop-less c = search needs
 
 loop-again : tie.Need-loop-again Inv-loop μ-loop
-loop-again c = let l = c .before .before .before .loop in
-    let a = c .before .before .before .before .before .before .before .args in
+loop-again c =
+    let l = c .before .before .before .before .loop in
+    let a = c .before .before .before .before .before .before .before .before .args in
     let ids = map idOf (a .columns .now) in
-    let f : ℕ → ℕ = λ id. place (eqb id) ids in
-    let e = length-map (a .union .now) f in
-    (search needs, paste-turn (a .places .now) 0 (placesOf ids (a .union .now)) (l .j) _ (l .places) (f 0) _ (l .inv .1) (sym (zero-add (l .j))) (omega arith) (omega arith) (c .column-place .ensures ∙ sym (List·getD-map f (a .union .now) (l .j) 0)))
+    let f : ℕ → ℕ = λ id. smallerThan id (a .union .now) in
+    let e = length-map (a .columns .now) idOf in
+    let n = length-map ids f in
+    let x = List·getD-map f ids (l .j) (idOf 0) ∙ ap f (List·getD-map idOf (a .columns .now) (l .j) 0) in (
+      search needs,
+      paste-turn (a .places .now) 0 (placesIn (a .union .now) ids) (l .j) _ (l .places) (f (idOf 0)) _ (l .inv .1) (sym (zero-add (l .j))) (omega arith) (omega arith)
+          (c .smaller .ensures ∙ ap f (c .before .id .ensures) ∙ sym x),
+    )
 
 same-length : tie.Need-same-length Inv-loop μ-loop
 same-length c = c .before .loop .inv .1 .size
 
 returns : tie.Need-returns Inv-loop μ-loop
-returns c = let l = c .before .loop in
+returns c =
+    let l = c .before .loop in
     let a = c .before .before .before .before .before .args in
-    paste-all (a .places .now) 0 (placesOf (map idOf (a .columns .now)) (a .union .now)) (l .j) (length (a .union .now)) (l .places) (l .inv .1) (omega arith)
+    paste-all (a .places .now) 0 (placesIn (a .union .now) (map idOf (a .columns .now))) (l .j) (length (a .columns .now)) (l .places) (l .inv .1) (omega arith)
 
 pub column-places-spec : {M : Type 1} → statement M
 column-places-spec =
@@ -67,9 +75,10 @@ column-places-spec =
     Inv-loop
     μ-loop
     loop-holds
-    mul-column-place
-    shared-slice-read-column-place
-    column-place-requires
+    mul-id
+    shared-slice-read-id
+    id-requires
+    smaller-requires
     mul-places
     slice-write-places
     add-j

@@ -1,7 +1,7 @@
 -- The rows passed stand in the cells, widened; a turn writes the next one after them.
 use borrow.Author.Needs.{needs}
 use Prim.Native.Nat.{ℕ, _+_, _-_, _*_, _≤_}
-use mathlib.Core.Path.{_≡_, sym, _∙_, ap}
+use mathlib.Core.Path.{_≡_, ap}
 use mathlib.Core.List.{flatten}
 use native.Mathlib.Omega.{arith}
 use lib.ListN.{length}
@@ -9,19 +9,19 @@ use Rattle.definitions.specs.Limits.{maxRows}
 use Rattle.definitions.specs.Image.{rowCount}
 use Rattle.definitions.proofs.Questions.{passed-is}
 use Rattle.lists.proofs.Pastes.{paste-all}
-use Rattle.tables.specs.Places.{rowsAtPlaces}
-use Rattle.tables.proofs.WidenLaws.{Widening, widen-starts, source-within, target-within, widen-turn}
+use Rattle.definitions.specs.OuterUnion.{widenedRows}
+use Rattle.tables.proofs.WidenLaws.{Widening, widen-starts, source-within, target-within, cells-within, widen-turn}
 use Rattle.tables.proofs.widen.widen_rows.Statement.{statement}
 use Rattle.tables.proofs.widen.widen_rows.Tie as tie
 
 abbrev Inv-loop : tie.InvT-loop
-Inv-loop image places cells₀ at header columns rows width i₀ from₀ to₀ cells i from to = Widening image places cells₀ at columns i from to cells
+Inv-loop image union places cells₀ at header columns rows width i₀ from₀ to₀ cells i from to = Widening image union cells₀ at columns i from to cells
 
 abbrev μ-loop : tie.MeasureT-loop
-μ-loop image places cells₀ at header columns rows width i₀ from₀ to₀ cells i from to = rows - i
+μ-loop image union places cells₀ at header columns rows width i₀ from₀ to₀ cells i from to = rows - i
 
 shared-slice-read-header : tie.Need-shared-slice-read-header Inv-loop μ-loop
-shared-slice-read-header c = passed-is maxRows (c .before .before .before .before .args .image .now) .0 (c .before .before .before .before .pre .0) .first-word
+shared-slice-read-header c = passed-is maxRows (c .before .before .before .before .before .args .image .now) .0 (c .before .before .before .before .before .pre .0 .0) .first-word
 
 columns-requires : tie.Need-columns-requires Inv-loop μ-loop
 columns-requires c κs = search needs
@@ -39,22 +39,22 @@ add-from : tie.Need-add-from Inv-loop μ-loop
 add-from c = search needs
 
 loop-holds : tie.Need-loop-holds Inv-loop μ-loop
-loop-holds c = let s = c .before .before .before .before .before .before in
-    widen-starts (s .args .image .now) (s .args .places .now) (s .args .cells .now) (s .args .at) _ (s .pre .0) (c .before .columns .ensures) (s .pre .1)
+loop-holds c = let s = c .before .before .before .before .before .before .before in
+    widen-starts (s .args .image .now) (s .args .union .now) (s .args .cells .now) (s .args .at) _ (s .pre .0 .0) (c .before .columns .ensures) (s .pre .1 .0)
 
 -- the next row is within the image, and its place within the cells
-source : (c : tie.In-loop Inv-loop μ-loop) → c .before .loop .from + c .before .before .before .columns .result ≤ length (c .before .before .before .before .before .before .before .before .args .image .now)
+source : (c : tie.In-loop Inv-loop μ-loop) → c .before .loop .from + c .before .before .before .columns .result ≤ length (c .before .before .before .before .before .before .before .before .before .args .image .now)
 source c =
-    let s = c .before .before .before .before .before .before .before .before in
+    let s = c .before .before .before .before .before .before .before .before .before in
     let l = c .before .loop in
-    source-within (s .args .image .now) (s .args .places .now) (s .args .cells .now) (s .args .at) _ (s .pre .0) (c .before .before .before .columns .ensures) (s .pre .1)
+    source-within (s .args .image .now) (s .args .union .now) (s .args .cells .now) (s .args .at) _ (s .pre .0 .0) (c .before .before .before .columns .ensures) (s .pre .1 .0)
     (l .i) (l .from) (l .to) (l .cells) (l .inv) (omega (arith, c .before .before .rows .ensures))
 
-target : (c : tie.In-loop Inv-loop μ-loop) → c .before .loop .to + length (c .before .before .before .before .before .before .before .before .args .places .now) ≤ length (c .before .before .before .before .before .before .before .before .args .cells .now)
+target : (c : tie.In-loop Inv-loop μ-loop) → c .before .loop .to + length (c .before .before .before .before .before .before .before .before .before .args .union .now) ≤ length (c .before .before .before .before .before .before .before .before .before .args .cells .now)
 target c =
-    let s = c .before .before .before .before .before .before .before .before in
+    let s = c .before .before .before .before .before .before .before .before .before in
     let l = c .before .loop in
-    target-within (s .args .image .now) (s .args .places .now) (s .args .cells .now) (s .args .at) _ (s .pre .0) (c .before .before .before .columns .ensures) (s .pre .1)
+    target-within (s .args .image .now) (s .args .union .now) (s .args .cells .now) (s .args .at) _ (s .pre .0 .0) (c .before .before .before .columns .ensures) (s .pre .1 .0)
     (l .i) (l .from) (l .to) (l .cells) (l .inv) (omega (arith, c .before .before .rows .ensures))
 
 add-end : tie.Need-add-end Inv-loop μ-loop
@@ -73,7 +73,11 @@ part-widen-row-end : tie.Need-part-widen-row-end Inv-loop μ-loop
 part-widen-row-end c = let w = source c in search needs
 
 widen-row-requires : tie.Need-widen-row-requires Inv-loop μ-loop
-widen-row-requires c κs = let w = target (c .before .before) in let z = c .before .before .before .loop .inv .written .size in search needs
+widen-row-requires c κs =
+    let s = c .before .before .before .before .before .before .before .before .before .before .before in
+    let l = c .before .before .before .loop in
+    cells-within (s .args .image .now) (s .args .union .now) (s .args .cells .now) (s .args .at) _ (s .pre .0 .0) (c .before .before .before .before .before .columns .ensures) (s .pre .1 .0)
+    (l .i) (l .from) (l .to) (l .cells) (l .inv) (omega (arith, c .before .before .before .before .rows .ensures)) (s .args .places .now) (s .pre .0 .1) (s .pre .0 .2)
 
 add-to : tie.Need-add-to Inv-loop μ-loop
 add-to c = let w = target (c .before .before .before .before .before) in search needs
@@ -86,23 +90,23 @@ loop-less c = search needs
 
 loop-again : tie.Need-loop-again Inv-loop μ-loop
 loop-again c =
-    let s = c .before .before .before .before .before .before .before .before .before .before .before .before .before in
+    let s = c .before .before .before .before .before .before .before .before .before .before .before .before .before .before in
     let l = c .before .before .before .before .before .before .loop in
-    widen-turn (s .args .image .now) (s .args .places .now) (s .args .cells .now) (s .args .at) _ (s .pre .0) (c .before .before .before .before .before .before .before .before .columns .ensures) (s .pre .1)
-    (l .i) (l .from) (l .to) (l .cells) (l .inv) (omega (arith, c .before .before .before .before .before .before .before .rows .ensures)) _ (c .before .before .widen-row .ensures)
+    widen-turn (s .args .image .now) (s .args .union .now) (s .args .cells .now) (s .args .at) _ (s .pre .0 .0) (c .before .before .before .before .before .before .before .before .columns .ensures) (s .pre .1 .0)
+    (l .i) (l .from) (l .to) (l .cells) (l .inv) (omega (arith, c .before .before .before .before .before .before .before .rows .ensures)) (s .args .places .now) (s .pre .0 .1) (s .pre .0 .2) (s .pre .1 .1) _ (c .before .before .widen-row .ensures)
 
 same-length : tie.Need-same-length Inv-loop μ-loop
 same-length c = c .before .loop .inv .written .size
 
 returns : tie.Need-returns Inv-loop μ-loop
 returns c =
-    let s = c .before .before .before .before .before .before .before .before in
+    let s = c .before .before .before .before .before .before .before .before .before in
     let l = c .before .loop in
     let r = c .before .before .rows .ensures in
     let v = l .inv .rows in
     let e : l .i ≡ rowCount (s .args .image .now) = omega arith in
-    paste-all (s .args .cells .now) (s .args .at) (flatten (rowsAtPlaces (s .args .places .now) (s .args .image .now))) (l .i * length (s .args .places .now)) _
-    (l .cells) (l .inv .written) (ap (λ (k : ℕ). k * length (s .args .places .now)) e)
+    paste-all (s .args .cells .now) (s .args .at) (flatten (widenedRows (s .args .union .now) (s .args .image .now))) (l .i * length (s .args .union .now)) _
+    (l .cells) (l .inv .written) (ap (λ (k : ℕ). k * length (s .args .union .now)) e)
 
 pub widen-rows-spec : {M : Type 1} → statement M
 widen-rows-spec =

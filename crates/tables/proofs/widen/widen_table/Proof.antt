@@ -1,34 +1,25 @@
--- The places of the union's columns in the image give its widened rows.
-use Prim.Native.Nat.{ℕ, _+_, _-_, _*_, _≤_}
-use mathlib.Core.Path.{_≡_, sym, _∙_, ap, ap₂}
-use mathlib.Core.List.{List, map, flatten}
+-- The places of the image's columns in the union give its widened rows.
+use mathlib.Core.Path.{sym}
 use native.Mathlib.Omega.{arith}
-use lib.Dec.{eqb}
-use lib.ListN.{length, take, replicate, length-map}
-use lib.Seq.{paste}
+use lib.ListN.{replicate}
+use lib.Seq.{length-take-le}
 use Rattle.definitions.specs.Limits.{maxRows}
-use Rattle.definitions.specs.Lists.{place}
-use Rattle.definitions.specs.Word.{idOf}
-use Rattle.definitions.specs.Image.{rowCount, imageIds}
 use Rattle.definitions.proofs.Questions.{passed-is}
-use Rattle.images.proofs.Parts.{columns-part}
-use Rattle.lists.proofs.Pastes.{paste-front}
-use Rattle.tables.specs.Places.{placesOf, rowsAtPlaces}
-use Rattle.tables.proofs.WidenLaws.{places-rows}
+use Rattle.tables.proofs.IdLaws.{columns-of}
+use Rattle.tables.proofs.WidenLaws.{places-written}
 use borrow.Author.Needs.{needs}
 use Rattle.tables.proofs.widen.widen_table.Statement.{statement}
 use Rattle.tables.proofs.widen.widen_table.Tie as tie
 
--- The places of the union's columns in the image give its widened rows.
-
 shared-slice-read-columns : tie.Need-shared-slice-read-columns
-shared-slice-read-columns c = let s = c .before .before .before .before in passed-is maxRows (s .args .image .now) .0 (s .pre .0 .0) .first-word
+shared-slice-read-columns c =
+    let s = c .before .before .before .before in passed-is maxRows (s .args .image .now) .0 (s .pre .0 .0) .first-word
 
 columns-requires : tie.Need-columns-requires
 columns-requires c κs = search needs
 
-cast-end : tie.Need-cast-end
-cast-end c = search needs
+cast-columns : tie.Need-cast-columns
+cast-columns c = search needs
 
 add-end : tie.Need-add-end
 add-end c = search needs
@@ -40,55 +31,49 @@ part-column-places-start : tie.Need-part-column-places-start
 part-column-places-start c = search needs
 
 part-column-places-end : tie.Need-part-column-places-end
-part-column-places-end c = let s = c .before .before .before .before .before in
+part-column-places-end c =
+    let s = c .before .before .before .before .before in
     let a = passed-is maxRows (s .args .image .now) .0 (s .pre .0 .0) in
-    let z = a .all-words in let e = c .columns .ensures in search needs
+    let z = a .all-words in
+    let e = c .columns .ensures in
+    search needs
 
 slice-aggregate-column-places : tie.Need-slice-aggregate-column-places
 slice-aggregate-column-places c = search needs
 
 column-places-requires : tie.Need-column-places-requires
-column-places-requires c κs = search needs
+column-places-requires c κs =
+    let s = c .before .before .before .before .before .before .before in
+    let u = columns-of (s .args .image .now) _ (s .pre .0 .0) (c .before .before .columns .ensures) in
+    let z = u .size in
+    let f = u .few in
+    (omega arith, omega (arith, s .pre .0 .1))
 
 array-share-prefix-places : tie.Need-array-share-prefix-places
-array-share-prefix-places c = search needs
-
--- the places that the call has written
-places-are : (c : tie.After-column-places)
-    → take (length (c .before .before .before .before .before .before .before .before .args .union .now)) (c .column-places .last .1 .1 .0) ≡ placesOf (imageIds (c .before .before .before .before .before .before .before .before .args .image .now)) (c .before .before .before .before .before .before .before .before .args .union .now)
-places-are c =
-    let s = c .before .before .before .before .before .before .before .before in
-    let ids = imageIds (s .args .image .now) in
-    let f : ℕ → ℕ = λ id. place (eqb id) ids in
-    paste-front (replicate 16 0) (placesOf ids (s .args .union .now)) _ (length (s .args .union .now)) (length-map (s .args .union .now) f)
-    (c .column-places .ensures ∙ ap (λ (l : List ℕ). paste (replicate 16 0) 0 (placesOf (map idOf l) (s .args .union .now)) (length (s .args .union .now))) (columns-part _ (s .args .image .now) (c .before .before .before .columns .ensures)))
+array-share-prefix-places c =
+    let s = c .before .before .before .before .before .before .before .before .before in
+    let u = columns-of (s .args .image .now) _ (s .pre .0 .0) (c .before .before .before .before .columns .ensures) in
+    let f = u .few in
+    search needs
 
 slice-aggregate-widen-rows : tie.Need-slice-aggregate-widen-rows
 slice-aggregate-widen-rows c =
     let s = c .before .before .before .before .before .before .before .before .before .before in
-    let ids = imageIds (s .args .image .now) in
-    sym (ap length (places-are (c .before .before)) ∙ length-map (s .args .union .now) (λ id. place (eqb id) ids))
+    let u = columns-of (s .args .image .now) _ (s .pre .0 .0) (c .before .before .before .before .before .columns .ensures) in
+    let f = u .few in
+    sym (length-take-le _ (c .before .before .column-places .last .1 .1 .0) (search needs))
 
 widen-rows-requires : tie.Need-widen-rows-requires
 widen-rows-requires c κs =
     let s = c .before .before .before .before .before .before .before .before .before .before .before in
-    let ids = imageIds (s .args .image .now) in
-    let e = ap length (places-are (c .before .before .before)) ∙ length-map (s .args .union .now) (λ id. place (eqb id) ids) in
-    (s .pre .0 .0, rw e (s .pre .1))
+    let u = columns-of (s .args .image .now) _ (s .pre .0 .0) (c .before .before .before .before .before .before .columns .ensures) in
+    ((s .pre .0 .0, s .pre .0 .2, places-written (s .args .union .now) (s .args .image .now) _ (replicate 16 0) _ _ u (c .before .before .before .column-places .ensures)), s .pre .1)
 
 same-length : tie.Need-same-length
 same-length c = search needs
 
 returns : tie.Need-returns
-returns c =
-    let s = c .before .before .before .before .before .before .before .before .before .before .before .before .before .before in
-    let ids = imageIds (s .args .image .now) in
-    let places = placesOf ids (s .args .union .now) in
-    let p = places-are (c .before .before .before .before .before .before) in
-    c .before .before .widen-rows .ensures
-    ∙ ap (λ (l : List ℕ). paste (s .args .cells .now) (s .args .at) (flatten (rowsAtPlaces l (s .args .image .now))) (rowCount (s .args .image .now) * length l)) p
-    ∙ ap₂ (λ (r : List (List ℕ)) (n : ℕ). paste (s .args .cells .now) (s .args .at) (flatten r) (rowCount (s .args .image .now) * n))
-    (places-rows (s .args .union .now) (s .args .image .now)) (length-map (s .args .union .now) (λ id. place (eqb id) ids))
+returns c = search needs
 
 pub widen-table-spec : {M : Type 1} → statement M
 widen-table-spec =
@@ -96,7 +81,7 @@ widen-table-spec =
     (tie.spec
     shared-slice-read-columns
     columns-requires
-    cast-end
+    cast-columns
     add-end
     sub-column-places
     part-column-places-start

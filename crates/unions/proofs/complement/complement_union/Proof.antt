@@ -68,7 +68,7 @@ write-fused-requires c κs =
     let l = c .before .before .before .before .before .before .before .before .before .list-sets in
     let few : l .result ≤ maxSets = omega (arith, c .before .before .before .before .before .before .before .if2 .left) in
     let g = mul-le-mul (c .before .before .before .before .before .before .if3 .taken) (h .few-columns) in
-    ((own (c .before .before .before .before .before .before .before .before .before .before .before .before .before .before .before .before .before .before .before .before .before .args .a .now) (c .before .before .before .before .before .before .before .before .before .before .before .before .before .before .before .before .before .before .before .before .before .args .b .now) (c .before .before .before .before .before .before .before .before .before .before .before .before .before .before .before .before .check-pair .result) (c .before .before .before .before .before .before .before .before .before .before .before .before .before .before .before .before .check-pair .ensures) (c .before .before .before .before .before .before .before .before .before .before .before .before .before .before .before .if1 .left) (c .before .before .before .before .before .before .before .before .before .before .before .before .before .before .union-table .result) (c .before .before .before .before .before .before .before .before .before .before .before .before .before .before .union-table .ensures), ids-small (s .args .a .now) (s .args .b .now) (u .result) h), ((l .ensures, few, search needs), (omega arith, search needs, search needs)))
+    ((own (c .before .before .before .before .before .before .before .before .before .before .before .before .before .before .before .before .before .before .before .before .before .args .a .now) (c .before .before .before .before .before .before .before .before .before .before .before .before .before .before .before .before .before .before .before .before .before .args .b .now) (c .before .before .before .before .before .before .before .before .before .before .before .before .before .before .before .before .check-pair .result) (c .before .before .before .before .before .before .before .before .before .before .before .before .before .before .before .before .check-pair .ensures) (c .before .before .before .before .before .before .before .before .before .before .before .before .before .before .before .if1 .left) (c .before .before .before .before .before .before .before .before .before .before .before .before .before .before .union-table .result) (c .before .before .before .before .before .before .before .before .before .before .before .before .before .before .union-table .ensures), ids-small (s .args .a .now) (s .args .b .now) _ (u .result) h), ((l .ensures, few, search needs), (omega arith, search needs, search needs)))
 
 same-length : tie.Need-same-length
 same-length c = search needs
@@ -106,7 +106,7 @@ write-fused-requires-2 c κs =
     let l = c .before .before .before .before .before .before .before .before .before .list-sets in
     let few : l .result ≤ maxSets = omega (arith, c .before .before .before .before .before .before .before .if2 .left) in
     let g = mul-le-mul few (h .few-columns) in
-    ((own (c .before .before .before .before .before .before .before .before .before .before .before .before .before .before .before .before .before .before .before .before .before .args .a .now) (c .before .before .before .before .before .before .before .before .before .before .before .before .before .before .before .before .before .before .before .before .before .args .b .now) (c .before .before .before .before .before .before .before .before .before .before .before .before .before .before .before .before .check-pair .result) (c .before .before .before .before .before .before .before .before .before .before .before .before .before .before .before .before .check-pair .ensures) (c .before .before .before .before .before .before .before .before .before .before .before .before .before .before .before .if1 .left) (c .before .before .before .before .before .before .before .before .before .before .before .before .before .before .union-table .result) (c .before .before .before .before .before .before .before .before .before .before .before .before .before .before .union-table .ensures), ids-small (s .args .a .now) (s .args .b .now) (u .result) h), ((l .ensures, few, search needs), (omega arith, search needs, search needs)))
+    ((own (c .before .before .before .before .before .before .before .before .before .before .before .before .before .before .before .before .before .before .before .before .before .args .a .now) (c .before .before .before .before .before .before .before .before .before .before .before .before .before .before .before .before .before .before .before .before .before .args .b .now) (c .before .before .before .before .before .before .before .before .before .before .before .before .before .before .before .before .check-pair .result) (c .before .before .before .before .before .before .before .before .before .before .before .before .before .before .before .before .check-pair .ensures) (c .before .before .before .before .before .before .before .before .before .before .before .before .before .before .before .if1 .left) (c .before .before .before .before .before .before .before .before .before .before .before .before .before .before .union-table .result) (c .before .before .before .before .before .before .before .before .before .before .before .before .before .before .union-table .ensures), ids-small (s .args .a .now) (s .args .b .now) _ (u .result) h), ((l .ensures, few, search needs), (omega arith, search needs, search needs)))
 
 same-length-3 : tie.Need-same-length-3
 same-length-3 c = search needs

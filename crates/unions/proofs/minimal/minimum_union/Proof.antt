@@ -1,12 +1,14 @@
 -- Each return is a case of the definition: a refusal with the buffer as it was, or done with the image of the rows left over its front.
 use mathlib.Core.Path.{_≡_, _∙_}
+use mathlib.Core.List.{[]}
 use Prim.Native.Nat.{ℕ, _+_, _*_, _≤_, _<_}
 use native.Mathlib.Omega.{arith}
 use lib.ListN.{length}
 use Rattle.definitions.specs.Calls.{minimumImage, minimumOutcome}
 use Rattle.unions.proofs.Pairs.{pair-refused, table-short, table-done, left-alone, written-over}
 use Rattle.unions.proofs.Tables.{cells-fit, ids-small}
-use Rattle.unions.proofs.MinimumLaws.{left-fit, left-cells, minimum-words, minimum-written, minimum-values}
+use Rattle.unions.proofs.Kept.{kept-cells, kept-fit}
+use Rattle.unions.proofs.MinimumLaws.{minimum-words, minimum-written, minimum-values}
 use borrow.Author.Needs.{needs}
 use Rattle.unions.proofs.minimal.minimum_union.Statement.{statement}
 use Rattle.unions.proofs.minimal.minimum_union.Tie as tie
@@ -37,7 +39,7 @@ minimum-rows-requires c κs =
     let s = c .before .before .before .before .before .before .before .before .before .before in
     let k = c .before .before .before .before .before .before .check-pair in
     let u = c .before .before .before .before .union-table in
-    let f = cells-fit (s .args .a .now) (s .args .b .now) (u .result) (u .ensures) in
+    let f = cells-fit (s .args .a .now) (s .args .b .now) _ (u .result) (u .ensures) in
     let g = u .ensures .cell-words in
     (u .ensures .few-rows, u .ensures .few-columns, omega arith, let r = u .ensures .few-rows in omega arith)
 
@@ -50,7 +52,7 @@ mul-words c =
     let k = c .before .before .before .before .before .before .before .before .check-pair in
     let u = c .before .before .before .before .before .before .union-table in
     let m = c .before .minimum-rows in
-    let f = left-cells (s .args .a .now) (s .args .b .now) (u .result) (u .ensures) (m .result .rows) _ (m .ensures .0) (search needs) (m .ensures .1) in
+    let f = kept-cells _ _ (u .result) (u .ensures) (m .result .rows) [] (m .ensures .0) in
     omega arith
 
 add-words-2 : tie.Need-add-words-2
@@ -59,7 +61,7 @@ add-words-2 c =
     let k = c .before .before .before .before .before .before .before .before .check-pair in
     let u = c .before .before .before .before .before .before .union-table in
     let m = c .before .minimum-rows in
-    let f = left-cells (s .args .a .now) (s .args .b .now) (u .result) (u .ensures) (m .result .rows) _ (m .ensures .0) (search needs) (m .ensures .1) in
+    let f = kept-cells _ _ (u .result) (u .ensures) (m .result .rows) [] (m .ensures .0) in
     let g = u .ensures .few-columns in
     omega arith
 
@@ -87,7 +89,7 @@ write-table-requires c κs =
     let r = u .ensures .few-rows in
     let i = u .ensures .id-words in
     let o = m .ensures .0 in
-    ((omega arith, g, omega arith, search needs, left-fit (s .args .a .now) (s .args .b .now) (u .result) (u .ensures) (m .result .rows) _ (m .ensures .0) (search needs) (m .ensures .1), omega (arith, c .before .before .before .before .before .before .before .if2 .left)), ids-small (s .args .a .now) (s .args .b .now) (u .result) (u .ensures))
+    ((omega arith, g, omega arith, search needs, kept-fit _ _ (u .result) (u .ensures) (m .result .rows) _ (m .ensures .0) (m .ensures .1 .below), omega (arith, c .before .before .before .before .before .before .before .if2 .left)), ids-small (s .args .a .now) (s .args .b .now) _ (u .result) (u .ensures))
 
 same-length : tie.Need-same-length
 same-length c = search needs

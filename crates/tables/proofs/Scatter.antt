@@ -1,0 +1,190 @@
+-- A row whose cells are written at the places of its ids, over empty cells, stands there widened; and so distinct ids are put in order.
+-- Assumes nothing.
+use mathlib.Core.Path.{_≡_, refl, sym, _∙_, ap, ap₂, subst}
+use mathlib.Core.Bool.{true}
+use mathlib.Core.Logic.{_⊎_, inl, inr, ⊎-elim}
+use mathlib.Core.List.{List, [], _∷_, _++_, map}
+use Prim.Native.Nat.{ℕ, zero, suc, _+_, _-_, _<_, _≤_}
+use native.Mathlib.Omega.{arith}
+use lib.Dec.{eqb, ltb}
+use lib.ListN.{length, getD, set, replicate, take, drop, length-set, length-map, List·getD-map, List·getD-append}
+use lib.Seq.{paste, length-paste, take-paste, drop-paste, length-take-le, getD-take, getD-drop, getD-append-add, getD-set-same, getD-set-other, ext-getD}
+use borrow.Author.Tests.{eqb-true, eqb-false, eq-eqb, ltb-true, ltb-false}
+use Rattle.definitions.specs.Lists.{any, distinct}
+use Rattle.definitions.specs.Ascending.{ascending}
+use Rattle.definitions.specs.OuterUnion.{compareWord, cellIn, widened}
+use Rattle.definitions.specs.Statements.{Stands, Rising}
+use Rattle.definitions.proofs.Bools.{bool-cases, clash}
+use Rattle.definitions.proofs.Ascending.{is-rising, ascending-only, ascending-has}
+use Rattle.definitions.proofs.Orders.{words}
+use Rattle.definitions.proofs.Lists.{stands-get, stands-at, stands-map, map-stands, map-ext, any-of}
+use Rattle.definitions.proofs.Widened.{cell-own, widened-own, widened-lacking}
+use Rattle.lists.proofs.Pastes.{paste-front}
+use Rattle.lists.proofs.Walks.{next, end}
+use Rattle.tables.specs.Places.{smallerThan, placesIn, scattered}
+use Rattle.tables.proofs.Smaller.{smaller-place, smaller-stands, smaller-ascending, distinct-count, known-stands}
+
+-- ---- the loop: j cells are written
+
+pub record Scattering (cells₀ : List ℕ) (at : ℕ) (places row : List ℕ) (j : ℕ) (cells : List ℕ) : Type 0 where
+  pub size : length cells ≡ length cells₀
+  pub rest : scattered cells₀ at places row ≡ scattered cells at (drop j places) (drop j row)
+
+none-left : (cells : List ℕ) (at : ℕ) (places : List ℕ) → scattered cells at places [] ≡ cells
+unfolding scattered
+none-left cells at [] = refl
+none-left cells at (p ∷ places) = refl
+
+module _ (cells₀ : List ℕ) (at : ℕ) (places row : List ℕ) where
+  pub scatter-none : Scattering cells₀ at places row 0 cells₀
+  scatter-none = record { size = refl; rest = refl }
+
+  pub scatter-turn : (j d p v : ℕ) (cells : List ℕ) → Scattering cells₀ at places row j cells → j < length places → j < length row
+      → p ≡ at + getD places j d → v ≡ getD row j 0 → Scattering cells₀ at places row (j + 1) (set cells p v)
+  unfolding scattered
+  scatter-turn j d p v cells s h g ep ev = record {
+    size = length-set cells p v ∙ s .size;
+    rest = s .rest ∙ ap₂ (scattered cells at) (next d places j h) (next 0 row j g)
+        ∙ ap₂ (λ (k x : ℕ). scattered (set cells k x) at (drop (j + 1) places) (drop (j + 1) row)) (sym ep) (sym ev);
+  }
+
+  pub scatter-all : (j : ℕ) (cells : List ℕ) → Scattering cells₀ at places row j cells → length row ≤ j → cells ≡ scattered cells₀ at places row
+  scatter-all j cells s h =
+      sym (s .rest ∙ ap (scattered cells at (drop j places)) (end row j h) ∙ none-left cells at (drop j places))
+
+-- ---- what stands in a list written over
+
+module _ (d : List ℕ) (at : ℕ) (s : List ℕ) (n : ℕ) (fits : at + n ≤ length d) (short : n ≤ length s) where
+  front : (k : ℕ) → k < at + n → getD (paste d at s n) k 0 ≡ getD (take at d ++ take n s) k 0
+  front k h = sym (getD-take (at + n) (paste d at s n) k 0 h) ∙ ap (λ (l : List ℕ). getD l k 0) (take-paste d at s n (omega arith) short)
+
+  paste-before : (k : ℕ) → k < at → getD (paste d at s n) k 0 ≡ getD d k 0
+  paste-before k h =
+      front k (omega arith) ∙ List·getD-append (take at d) (take n s) 0 k (omega (arith, length-take-le at d (omega arith))) ∙ getD-take at d k 0 h
+
+  paste-within : (k : ℕ) → k < n → getD (paste d at s n) (at + k) 0 ≡ getD s k 0
+  paste-within k h =
+      let e : length (take at d) ≡ at = length-take-le at d (omega arith) in
+      front (at + k) (omega arith) ∙ ap (λ (i : ℕ). getD (take at d ++ take n s) (i + k) 0) (sym e)
+      ∙ getD-append-add (take at d) (take n s) k 0 ∙ getD-take n s k 0 h
+
+  pub paste-after : (k : ℕ) → at + n ≤ k → getD (paste d at s n) k 0 ≡ getD d k 0
+  paste-after k h =
+      let e : at + n + (k - (at + n)) ≡ k = omega arith in
+      ap (λ (i : ℕ). getD (paste d at s n) i 0) (sym e) ∙ sym (getD-drop (at + n) (paste d at s n) (k - (at + n)) 0)
+      ∙ ap (λ (l : List ℕ). getD l (k - (at + n)) 0) (drop-paste d at s n (omega arith) short)
+      ∙ getD-drop (at + n) d (k - (at + n)) 0 ∙ ap (λ (i : ℕ). getD d i 0) e
+
+-- ---- what stands in the cells afterwards
+
+scatter-size : (at : ℕ) (places row cells : List ℕ) → length (scattered cells at places row) ≡ length cells
+unfolding scattered
+scatter-size at [] row cells = refl
+scatter-size at (p ∷ places) [] cells = refl
+scatter-size at (p ∷ places) (v ∷ row) cells = scatter-size at places row (set cells (at + p) v) ∙ length-set cells (at + p) v
+
+-- where each cell is written as it is to be, what was right already, or is written, is right
+scatter-tells : (d : ℕ) (goal : List ℕ) (at : ℕ) (places row cells : List ℕ) → length row ≡ length places
+    → ((j : ℕ) → j < length places → (at + getD places j d < length cells) × (getD row j 0 ≡ getD goal (at + getD places j d) 0))
+    → (i : ℕ) → (getD cells i 0 ≡ getD goal i 0) ⊎ ((p : ℕ) × Stands p places × (i ≡ at + p)) → getD (scattered cells at places row) i 0 ≡ getD goal i 0
+unfolding scattered
+scatter-tells d goal at [] row cells e f i h = ⊎-elim (λ q. q) (λ q. absurd (q .1)) h
+scatter-tells d goal at (p ∷ places) [] cells e f i h = absurd (omega arith)
+scatter-tells d goal at (p ∷ places) (v ∷ row) cells e f i h =
+    let g = f 0 (omega arith) in
+    scatter-tells d goal at places row (set cells (at + p) v) (omega arith)
+    (λ j k. let q = f (suc j) (omega arith) in (omega (arith, q .0, length-set cells (at + p) v), q .1)) i
+    (bool-cases (eqb i (at + p))
+    (λ b. let u = eqb-true i (at + p) b in
+    inl (ap (λ (k : ℕ). getD (set cells (at + p) v) k 0) u ∙ getD-set-same cells (at + p) v 0 (g .0) ∙ g .1 ∙ ap (λ (k : ℕ). getD goal k 0) (sym u)))
+    (λ b. let u = eqb-false i (at + p) b in
+    ⊎-elim (λ q. inl (getD-set-other cells (at + p) i v 0 u ∙ q))
+    (λ q. ⊎-elim (λ r. absurd (u (q .2 ∙ ap (λ (k : ℕ). at + k) r))) (λ r. inr (q .0, r, q .2)) (q .1)) h))
+
+-- ---- a row at the places of its ids in a union is a widened row
+
+pub empty-cells : (n k : ℕ) → _≡_ {A = ℕ} (getD (replicate n 0) k 0) 0
+empty-cells zero k = refl
+empty-cells (suc n) zero = refl
+empty-cells (suc n) (suc k) = empty-cells n k
+
+module _ (union ids row cells : List ℕ) (at : ℕ) (rising : Rising compareWord union) (differ : distinct eqb ids ≡ true)
+    (has : (id : ℕ) → Stands id ids → Stands id union) (even : length row ≡ length ids) (fits : at + length union ≤ length cells)
+    (empty : (k : ℕ) → k < length union → getD cells (at + k) 0 ≡ 0) where
+  wide : length (widened union ids row) ≡ length union
+  unfolding widened
+  wide = length-map union (cellIn ids row)
+
+  abbrev goal : List ℕ
+  goal = paste cells at (widened union ids row) (length union)
+
+  place-holds : (j : ℕ) → j < length ids
+      → (at + getD (placesIn union ids) j (smallerThan 0 union) < length cells) × (getD row j 0 ≡ getD goal (at + getD (placesIn union ids) j (smallerThan 0 union)) 0)
+  place-holds j h =
+      let s = smaller-stands (getD ids j 0) union rising (has (getD ids j 0) (stands-get 0 ids j h)) in
+      let e = List·getD-map (λ id. smallerThan id union) ids j 0 in
+      let k = smallerThan (getD ids j 0) union in (
+        omega (arith, s .0),
+        sym (ap (λ (i : ℕ). getD goal (at + i) 0) e ∙ paste-within cells at (widened union ids row) (length union) fits (omega (arith, wide)) k (s .0)
+            ∙ widened-own union ids row differ k j (s .0) h (s .1)),
+      )
+
+  within : (k : ℕ) → k < length union → (getD cells (at + k) 0 ≡ getD goal (at + k) 0) ⊎ ((p : ℕ) × Stands p (placesIn union ids) × (at + k ≡ at + p))
+  within k h =
+      let u = getD union k 0 in
+      let e = paste-within cells at (widened union ids row) (length union) fits (omega (arith, wide)) k h in
+      bool-cases (any (eqb u) ids)
+      (λ b. inr (k, subst (λ (p : ℕ). Stands p (placesIn union ids)) (smaller-place union k rising h) (stands-map (λ id. smallerThan id union) u ids (known-stands u ids b)), refl))
+      (λ b. inl (empty k h ∙ sym (e ∙ widened-lacking union ids row even k h (λ s. clash (any-of (eqb u) u ids s (eq-eqb u u refl)) b))))
+
+  anywhere : (i : ℕ) → (getD cells i 0 ≡ getD goal i 0) ⊎ ((p : ℕ) × Stands p (placesIn union ids) × (i ≡ at + p))
+  anywhere i =
+      bool-cases (ltb i at)
+      (λ b. inl (sym (paste-before cells at (widened union ids row) (length union) fits (omega (arith, wide)) i (ltb-true i at b))))
+      (λ b. bool-cases (ltb i (at + length union))
+      (λ q. let l = ltb-true i (at + length union) q in let g = ltb-false i at b in
+      let e : at + (i - at) ≡ i = omega arith in
+      subst (λ (x : ℕ). (getD cells x 0 ≡ getD goal x 0) ⊎ ((p : ℕ) × Stands p (placesIn union ids) × (x ≡ at + p))) e (within (i - at) (omega arith)))
+      (λ q. inl (sym (paste-after cells at (widened union ids row) (length union) fits (omega (arith, wide)) i (ltb-false i (at + length union) q)))))
+
+  pub scatter-widened : scattered cells at (placesIn union ids) row ≡ goal
+  scatter-widened =
+      let size : length goal ≡ length cells = length-paste cells at (widened union ids row) (length union) fits (omega (arith, wide)) in
+      let count : length (placesIn union ids) ≡ length ids = length-map ids (λ id. smallerThan id union) in
+      ext-getD 0 (scattered cells at (placesIn union ids) row) goal (scatter-size at (placesIn union ids) row cells ∙ sym size)
+      (λ i h. scatter-tells (smallerThan 0 union) goal at (placesIn union ids) row cells (even ∙ sym count) (λ j g. place-holds j (omega arith)) i (anywhere i))
+
+-- a place of an id is within the union
+pub places-within : (union ids : List ℕ) → Rising compareWord union → ((id : ℕ) → Stands id ids → Stands id union) → (p : ℕ) → Stands p (placesIn union ids) → p < length union
+places-within union ids rising has p h =
+    let m = map-stands (λ id. smallerThan id union) p ids h in
+    let s = smaller-stands (m .0) union rising (has (m .0) (m .1)) in
+    omega (arith, s .0, m .2)
+
+-- ---- distinct ids, each written at the number of smaller ones, are ascending
+
+own-cells : (f : ℕ → ℕ) (l : List ℕ) → ((x : ℕ) → Stands x l → f x ≡ x) → map f l ≡ l
+own-cells f [] h = refl
+own-cells f (x ∷ l) h = ap₂ (λ (y : ℕ) (r : List ℕ). y ∷ r) (h x (inl refl)) (own-cells f l (λ y s. h y (inr s)))
+
+module _ (all cells cur : List ℕ) (differ : distinct eqb all ≡ true) (room : length all ≤ length cells) (empty : (k : ℕ) → getD cells k 0 ≡ 0)
+    (written : cur ≡ scattered cells 0 (placesIn all all) all) where
+  abbrev sorted : List ℕ
+  sorted = ascending compareWord all
+
+  sorted-own : widened sorted all all ≡ sorted
+  unfolding widened
+  sorted-own =
+      own-cells (cellIn all all) sorted (λ x s.
+      let i = stands-at 0 x all (ascending-only words x all s) in
+      ap (cellIn all all) (sym (i .2)) ∙ cell-own sorted all all differ (i .0) (i .1) ∙ i .2)
+
+  pub ids-sorted : (take (length all) cur ≡ sorted) × (length all ≡ length sorted)
+  ids-sorted =
+      let count : length sorted ≡ length all = distinct-count all differ in
+      let places : placesIn all all ≡ placesIn sorted all =
+      map-ext (λ id. smallerThan id all) (λ id. smallerThan id sorted) all (λ id s. sym (smaller-ascending id all differ)) in
+      let goal : cur ≡ paste cells 0 (widened sorted all all) (length sorted) =
+      written ∙ ap (λ (l : List ℕ). scattered cells 0 l all) places
+      ∙ scatter-widened sorted all all cells 0 (is-rising words all) differ (λ id s. ascending-has words id all s) refl (omega arith) (λ k h. empty (0 + k)) in
+      (paste-front cells sorted cur (length all) count (goal ∙ ap₂ (λ (l : List ℕ) (n : ℕ). paste cells 0 l n) sorted-own count), sym count)
