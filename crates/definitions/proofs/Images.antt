@@ -32,7 +32,8 @@ ids-read (x ∷ ids) f =
     let e : idOf (columnWord x) ≡ x = omega arith in
     ap₂ (λ (y : ℕ) (l : List ℕ). y ∷ l) e (ids-read ids (λ id g. f id (inr g)))
 
-rows-read : (c : ℕ) (rows : List (List ℕ)) (rest : List ℕ) → ((r : List ℕ) → Stands r rows → length r ≡ c)
+-- the rows of a list that begins with rows joined
+pub rows-read : (c : ℕ) (rows : List (List ℕ)) (rest : List ℕ) → ((r : List ℕ) → Stands r rows → length r ≡ c)
     → rowsIn c (length rows) (flatten rows ++ rest) ≡ rows
 unfolding flatten
 rows-read c [] rest f = refl

@@ -9,7 +9,8 @@ use lib.ListN.{length, getD, take, drop, length-drop}
 use lib.Seq.{paste, take-all, drop-at, length-take-le}
 use Rattle.definitions.specs.Image.{rowsIn}
 use Rattle.definitions.proofs.Counts.{flatten-length}
-use Rattle.lists.proofs.Flat.{Wide, part-row, row-fits, flat-row, flat-rows}
+use Rattle.definitions.proofs.Images.{rows-read}
+use Rattle.lists.proofs.Flat.{Wide, part-row, row-fits, flat-row}
 use Rattle.lists.proofs.Pastes.{Pasted, pasted-more}
 use Rattle.rows.specs.Numbers.{rowAt, rowsAt, Fit}
 use Rattle.rows.proofs.Numbers.{fit-named, rows-length-at, row-named, part, part-length}
@@ -53,4 +54,4 @@ module _ (d w o : List ℕ) (at c m : ℕ) (fit : Fit c (length w) (take m o)) (
       ap (λ (s : List ℕ). rowsIn c m (drop at s)) rows-written
       ∙ ap (rowsIn c m) (drop-at (take at d) (rowWords ++ drop (at + m * c) d) at (length-take-le at d room))
       ∙ ap (λ (n : ℕ). rowsIn c n (rowWords ++ drop (at + m * c) d)) (sym (rows-length-at c w m o within))
-      ∙ flat-rows c (rowsAt c w (take m o)) (drop (at + m * c) d) (fit-wide c w (take m o) fit)
+      ∙ rows-read c (rowsAt c w (take m o)) (drop (at + m * c) d) (fit-wide c w (take m o) fit)
