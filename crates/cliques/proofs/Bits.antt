@@ -1,22 +1,22 @@
--- The positions of sets that are numbers: of an intersection, of a set with one more, of a list of marks; the lowest. Two numbers with
--- the same positions are equal. Assumes nothing.
-use mathlib.Core.Path.{_≡_, refl, sym, ap, _∙_}
+-- The positions of sets that are numbers: of an intersection, of a set with one more, of a list of marks; those below a bound; the lowest,
+-- and the others. Two numbers with the same positions are equal. Assumes nothing.
+use mathlib.Core.Path.{_≡_, refl, sym, ap, ap₂, _∙_, subst}
 use mathlib.Core.Bool.{Bool, true, false, cond, not, _&&_, _||_, Bool·beq}
 use mathlib.Core.List.{List}
-use Prim.Native.Nat.{ℕ, zero, suc, _/_, _%_, _^_, _<_}
+use Prim.Native.Nat.{ℕ, zero, suc, _+_, _-_, _/_, _%_, _^_, _<_}
 use native.Mathlib.Nat.{mod-lt, zero-lt-suc, not-suc-le-zero, le-of-suc-le-suc, div-one, div-div-eq-div-mul, pow-succ', zero-div, div-eq-of-lt, lt-of-lt-of-le}
 use native.Mathlib.Omega.{arith}
 use lib.Arith.{bin-ind}
-use lib.Bits.{bitAnd, bitOr, bitXor, and-shr, or-shr, xor-shr, and-mod, or-mod, xor-mod}
+use lib.Bits.{bitAnd, bitOr, bitXor, and-shr, or-shr, xor-shr, and-mod, or-mod, xor-mod, and-le-r}
 use lib.Count.{trailingZeros, under}
-use lib.Pow.{pow-mono}
+use lib.Pow.{pow-mono, pow-pos, ones-lt, shr-shr}
 use lib.Dec.{eqb, ltb, eqb·suc-suc, eqb·zero-suc, eqb·suc-zero}
 use borrow.Author.Tests.{eqb-true, eqb-false, eq-eqb, ltb-true, ltb-false}
 use Rattle.definitions.specs.ComplementUnion.{marked}
 use Rattle.definitions.specs.SetList.{bits}
 use Rattle.definitions.proofs.SetWords.{bit-marks}
-use Rattle.definitions.proofs.Bools.{bool-cases, bool-eq, clash, and-l, and-r, and-i, or-r}
-use Rattle.cliques.specs.Bits.{has, both, isSub, withRow, onlyOne, lowest}
+use Rattle.definitions.proofs.Bools.{bool-cases, bool-eq, clash, and-l, and-r, and-i, or-l, or-r}
+use Rattle.cliques.specs.Bits.{has, both, isSub, withRow, onlyOne, rowsBelow, Inside, lowest, withoutLowest}
 
 -- position k is in the set
 abbrev pub In : ℕ → ℕ → Type 0
@@ -96,6 +96,10 @@ pub has-suc : (w k : ℕ) → has w (suc k) ≡ has (w / 2) k
 unfolding has
 has-suc w k = ap (λ (x : ℕ). eqb (x % 2) 1) (ap (λ (x : ℕ). w / x) (pow-succ' 2 k) ∙ sym (div-div-eq-div-mul w 2 (2 ^ k)))
 
+pub has-shift : (w i k : ℕ) → has w (i + k) ≡ has (w / 2 ^ i) k
+unfolding has
+has-shift w i k = ap (λ (x : ℕ). eqb (x % 2) 1) (sym (shr-shr w i k))
+
 pub has-none : (k : ℕ) → has 0 k ≡ false
 unfolding has
 has-none k = ap (λ (x : ℕ). eqb (x % 2) 1) (zero-div (2 ^ k))
@@ -131,7 +135,7 @@ has-with-cases c i k h f g =
 
 -- ---- a number is its positions
 
-none-zero : (b : ℕ) → ((k : ℕ) → has b k ≡ false) → b ≡ 0
+pub none-zero : (b : ℕ) → ((k : ℕ) → has b k ≡ false) → b ≡ 0
 none-zero =
     bin-ind (λ (n : ℕ). ((k : ℕ) → has n k ≡ false) → n ≡ 0) (λ h. refl)
     (λ n ih h.
@@ -161,7 +165,13 @@ has-ext =
 pub same-set : (a b : ℕ) → ((k : ℕ) → In a k → In b k) → ((k : ℕ) → In b k → In a k) → a ≡ b
 same-set a b f g = has-ext a b (λ k. bool-eq (has a k) (has b k) (f k) (g k))
 
--- ---- intersections and subsets
+-- ---- unions, intersections and subsets
+
+pub or-in-l : (a b k : ℕ) → In a k → In (bitOr a b) k
+or-in-l a b k h = has-or a b k ∙ or-l (has a k) (has b k) h
+
+pub or-in-r : (a b k : ℕ) → In b k → In (bitOr a b) k
+or-in-r a b k h = has-or a b k ∙ or-r (has a k) (has b k) h
 
 pub both-in : (a b k : ℕ) → In a k → In b k → In (both a b) k
 both-in a b k p q = has-both a b k ∙ and-i p q
@@ -223,6 +233,11 @@ trailing-lowest (suc digits) set some h =
     lowest-step set (trailingZeros digits (set / 2)) (set % 2) refl (mod-lt set (zero-lt-suc 1))
     (λ e. trailing-lowest digits (set / 2) (λ z. some (omega arith)) (let p = pow-succ' 2 digits in omega arith))
 
+pub trailing-none : (digits set k : ℕ) → set < 2 ^ digits → k < trailingZeros digits set → has set k ≡ false
+trailing-none digits set k h l =
+    bool-cases (eqb set 0) (λ t. ap (λ (x : ℕ). has x k) (eqb-true set 0 t) ∙ has-none k)
+    (λ t. trailing-lowest digits set (eqb-false set 0 t) h .below k l)
+
 -- a position that is in a set of so many digits
 pub digit-below : (digits set k : ℕ) → set < 2 ^ digits → In set k → k < digits
 unfolding has
@@ -232,6 +247,26 @@ digit-below digits set k h e =
     let small : set < 2 ^ k = lt-of-lt-of-le h (pow-mono (ltb-false k digits t)) in
     absurd (clash e (ap (λ (x : ℕ). eqb (x % 2) 1) (div-eq-of-lt small))))
 
+-- ---- the positions below a bound
+
+pub below-of : (i k : ℕ) → In (rowsBelow i) k → k < i
+unfolding rowsBelow
+below-of i k h = digit-below i (2 ^ i - 1) k (ones-lt i) h
+
+ones-low : (i : ℕ) → (2 ^ suc i - 1) % 2 ≡ 1
+ones-low i = omega (arith, pow-succ' 2 i, pow-pos i)
+
+ones-half : (i : ℕ) → (2 ^ suc i - 1) / 2 ≡ 2 ^ i - 1
+ones-half i = omega (arith, pow-succ' 2 i, pow-pos i)
+
+pub below-in : (i k : ℕ) → k < i → In (rowsBelow i) k
+unfolding rowsBelow
+below-in zero k h = absurd (not-suc-le-zero h)
+below-in (suc i) zero h = has-low (2 ^ suc i - 1) ∙ ap (λ (x : ℕ). eqb x 1) (ones-low i)
+below-in (suc i) (suc k) h = has-suc (2 ^ suc i - 1) k ∙ ap (λ (x : ℕ). has x k) (ones-half i) ∙ below-in i k (le-of-suc-le-suc h)
+
+-- ---- the lowest position, and the others
+
 below-pow : (n : ℕ) → n < 2 ^ n
 below-pow zero = omega arith
 below-pow (suc n) = let p = pow-succ' 2 n in omega (arith, below-pow n)
@@ -240,6 +275,63 @@ pub is-lowest : (set : ℕ) → (set ≡ 0 → ⊥) → Lowest set (lowest set)
 unfolding lowest
 is-lowest set some = trailing-lowest set set some (below-pow set)
 
+pub at-lowest : (set m : ℕ) → 0 < set → m ≡ lowest set → Lowest set m
+at-lowest set m some e = subst (Lowest set) (sym e) (is-lowest set (λ z. omega arith))
+
+-- at any number of digits that holds the set
+pub trailing-is : (digits set : ℕ) → 0 < set → set < 2 ^ digits → trailingZeros digits set ≡ lowest set
+trailing-is digits set some h =
+    lowest-one set (trailingZeros digits set) (lowest set) (trailing-lowest digits set (λ z. omega arith) h) (is-lowest set (λ z. omega arith))
+
+half-lowest : (set m : ℕ) → Lowest set (suc m) → Lowest (set / 2) m
+half-lowest set m l = record { there = sym (has-suc set m) ∙ l .there; below = λ j h. sym (has-suc set j) ∙ l .below (suc j) (omega arith) }
+
+-- one less, halved
+half-odd : (set : ℕ) → Lowest set 0 → (set - 1) / 2 ≡ set / 2
+half-odd set l = let odd : set % 2 ≡ 1 = eqb-true (set % 2) 1 (sym (has-low set) ∙ l .there) in omega arith
+
+half-even : (set m : ℕ) → Lowest set (suc m) → (set - 1) / 2 ≡ set / 2 - 1
+half-even set m l =
+    let even = eqb-false (set % 2) 1 (sym (has-low set) ∙ l .below 0 (omega arith)) in
+    let some : set / 2 ≡ 0 → ⊥ = λ z. clash (half-lowest set m l .there) (ap (λ (x : ℕ). has x m) z ∙ has-none m) in
+    omega arith
+
+pred-at : (set m : ℕ) → Lowest set m → has (set - 1) m ≡ false
+pred-at set zero l =
+    let odd : set % 2 ≡ 1 = eqb-true (set % 2) 1 (sym (has-low set) ∙ l .there) in
+    let low : (set - 1) % 2 ≡ 0 = omega arith in
+    has-low (set - 1) ∙ ap (λ (x : ℕ). eqb x 1) low
+pred-at set (suc m) l = has-suc (set - 1) m ∙ ap (λ (x : ℕ). has x m) (half-even set m l) ∙ pred-at (set / 2) m (half-lowest set m l)
+
+pred-above : (set m k : ℕ) → Lowest set m → m < k → has (set - 1) k ≡ has set k
+pred-above set m zero l h = absurd (not-suc-le-zero h)
+pred-above set zero (suc k) l h = has-suc (set - 1) k ∙ ap (λ (x : ℕ). has x k) (half-odd set l) ∙ sym (has-suc set k)
+pred-above set (suc m) (suc k) l h =
+    has-suc (set - 1) k ∙ ap (λ (x : ℕ). has x k) (half-even set m l) ∙ pred-above (set / 2) m k (half-lowest set m l) (le-of-suc-le-suc h)
+    ∙ sym (has-suc set k)
+
+pub rest-in : (set k : ℕ) → In (withoutLowest set) k → In set k
+unfolding withoutLowest both
+rest-in set k h = both-l set (set - 1) k h
+
+pub rest-of : (set m k : ℕ) → Lowest set m → In set k → (k ≡ m → ⊥) → In (withoutLowest set) k
+unfolding withoutLowest both
+rest-of set m k l h d =
+    both-in set (set - 1) k h
+    (bool-cases (ltb k m) (λ t. absurd (clash h (l .below k (ltb-true k m t))))
+    (λ t. pred-above set m k l (let above = ltb-false k m t in omega arith) ∙ h))
+
+pub rest-less : (set : ℕ) → 0 < set → withoutLowest set < set
+unfolding withoutLowest
+rest-less set some = omega (arith, and-le-r set (set - 1))
+
+-- of a set below n
+pub lowest-inside : (set m n : ℕ) → 0 < set → m ≡ lowest set → Inside set n → m < n
+lowest-inside set m n some e f = f m (at-lowest set m some e .there)
+
+pub rest-inside : (set rest n : ℕ) → rest ≡ withoutLowest set → Inside set n → Inside rest n
+rest-inside set rest n e f k h = f k (rest-in set k (ap (λ (x : ℕ). has x k) (sym e) ∙ h))
+
 -- ---- two sets that are not the same
 
 pub only-one-some : (a b : ℕ) → (a ≡ b → ⊥) → onlyOne a b ≡ 0 → ⊥
@@ -247,6 +339,9 @@ only-one-some a b d e = d (has-ext a b (λ k. beq-same (has a k) (has b k) (sym 
 
 pub only-one-in : (a b k : ℕ) → In (onlyOne a b) k → has b k ≡ not (has a k)
 only-one-in a b k h = beq-other (has a k) (has b k) (sym (has-one a b k) ∙ h)
+
+pub only-one-of : (a b k : ℕ) → In a k → has b k ≡ false → In (onlyOne a b) k
+only-one-of a b k p q = has-one a b k ∙ ap₂ (λ (x y : Bool). not (Bool·beq x y)) p q
 
 pub only-one-out : (a b k : ℕ) → has (onlyOne a b) k ≡ false → has a k ≡ has b k
 only-one-out a b k h = beq-same (has a k) (has b k) (sym (has-one a b k) ∙ h)

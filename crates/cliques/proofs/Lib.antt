@@ -8,7 +8,9 @@ pub mod Listed
 pub mod Run
 pub mod Found
 pub mod Place
-pub mod Steps
 pub mod Complete
+pub mod Ready
+pub mod Rivals
+pub mod Steps
 pub mod Work
 pub mod Subgraph

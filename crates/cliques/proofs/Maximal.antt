@@ -1,8 +1,10 @@
 -- Maximal sets of a prefix of the rows, and a step of the search to the next prefix: it keeps them maximal, every maximal set of the next
 -- prefix comes from one of this prefix, and from one alone. Assumes nothing.
 use mathlib.Core.Path.{_≡_, refl, sym, ap, _∙_, subst}
+use mathlib.Core.Logic.{_⊎_, inl, inr, ⊎-elim}
 use mathlib.Core.Bool.{Bool, true, false, not}
 use Prim.Native.Nat.{ℕ, zero, suc, _≤_, _<_}
+use native.Mathlib.Decide.{le-ind}
 use native.Mathlib.Nat.{not-suc-le-zero, lt-suc-self}
 use native.Mathlib.Omega.{arith}
 use lib.Dec.{eqb}
@@ -10,7 +12,7 @@ use borrow.Author.Tests.{eqb-true, eqb-false, eq-eqb}
 use Rattle.definitions.proofs.Bools.{bool-cases, clash, not-so, and-l, and-r, and-i}
 use Rattle.definitions.proofs.Lists.{below-cases}
 use Rattle.cliques.specs.Bits.{has, both, isSub, withRow}
-use Rattle.cliques.specs.Search.{complete, isFull, taken, mayTake}
+use Rattle.cliques.specs.Search.{Mutual, complete, isFull, taken, mayTake}
 use Rattle.cliques.proofs.Bits.{In, has-with-self, has-with-old, has-with-cases, same-set, both-in, both-l, both-r, sub-same, sub-true, sub-of}
 
 -- every two different rows of the set complement each other
@@ -41,27 +43,27 @@ pub data Step (N : ℕ → ℕ) (i set next : ℕ) : Type 0 where
 module _ (N : ℕ → ℕ) where
   -- ---- the test for a maximal set
 
-  full-true : (set i : ℕ) → isFull N set i ≡ true → (j : ℕ) → j < i → isSub set (N j) ≡ true → ⊥
+  pub full-true : (set i : ℕ) → isFull N set i ≡ true → (j : ℕ) → j < i → isSub set (N j) ≡ true → ⊥
   unfolding isFull
   full-true set zero e j h s = not-suc-le-zero h
   full-true set (suc i) e j h s =
       below-cases j i h (λ lt. full-true set i (and-l (isFull N set i) (not (isSub set (N i))) e) j lt s)
       (λ p. clash (and-r (isFull N set i) (not (isSub set (N i))) e) (ap not (subst (λ (x : ℕ). isSub set (N x) ≡ true) p s)))
 
-  full-of : (set i : ℕ) → ((j : ℕ) → j < i → isSub set (N j) ≡ true → ⊥) → isFull N set i ≡ true
+  pub full-of : (set i : ℕ) → ((j : ℕ) → j < i → isSub set (N j) ≡ true → ⊥) → isFull N set i ≡ true
   unfolding isFull
   full-of set zero f = refl
   full-of set (suc i) f = and-i (full-of set i (λ j h. f j (omega arith))) (ap not (not-so (isSub set (N i)) (f i (lt-suc-self i))))
 
-  may-full : (set i : ℕ) → mayTake N set i ≡ true → isFull N (taken N set i) i ≡ true
+  pub may-full : (set i : ℕ) → mayTake N set i ≡ true → isFull N (taken N set i) i ≡ true
   unfolding mayTake
   may-full set i e = and-l (isFull N (taken N set i) i) (eqb (complete N (both set (N i)) i) set) e
 
-  may-from : (set i : ℕ) → mayTake N set i ≡ true → complete N (both set (N i)) i ≡ set
+  pub may-from : (set i : ℕ) → mayTake N set i ≡ true → complete N (both set (N i)) i ≡ set
   unfolding mayTake
   may-from set i e = eqb-true (complete N (both set (N i)) i) set (and-r (isFull N (taken N set i) i) (eqb (complete N (both set (N i)) i) set) e)
 
-  may-of : (set i : ℕ) → isFull N (taken N set i) i ≡ true → complete N (both set (N i)) i ≡ set → mayTake N set i ≡ true
+  pub may-of : (set i : ℕ) → isFull N (taken N set i) i ≡ true → complete N (both set (N i)) i ≡ set → mayTake N set i ≡ true
   unfolding mayTake
   may-of set i f g = and-i f (eq-eqb (complete N (both set (N i)) i) set g)
 
@@ -75,7 +77,7 @@ module _ (N : ℕ → ℕ) where
 
   -- ---- completion
 
-  complete-keeps : (set i k : ℕ) → In set k → In (complete N set i) k
+  pub complete-keeps : (set i k : ℕ) → In set k → In (complete N set i) k
   unfolding complete
   complete-keeps set zero k h = h
   complete-keeps set (suc i) k h =
@@ -87,8 +89,11 @@ module _ (N : ℕ → ℕ) where
   complete-more set i k r =
       bool-cases (isSub (complete N set i) (N i)) (λ e. rw e (has-with-old (complete N set i) i k r)) (λ e. rw e r)
 
+  pub complete-later : (set k i j : ℕ) → k ≤ i → In (complete N set k) j → In (complete N set i) j
+  complete-later set k i j h r = le-ind (λ (m : ℕ). In (complete N set m) j) r (λ m l e. complete-more set m j e) i h
+
   -- what a turn adds
-  complete-cases : {A : Type 0} (set i k : ℕ) → In (complete N set (suc i)) k → (In (complete N set i) k → A)
+  pub complete-cases : {A : Type 0} (set i k : ℕ) → In (complete N set (suc i)) k → (In (complete N set i) k → A)
       → (k ≡ i → isSub (complete N set i) (N i) ≡ true → A) → A
   unfolding complete
   complete-cases set i k h f g =
@@ -99,6 +104,13 @@ module _ (N : ℕ → ℕ) where
   pub complete-adds : (set i : ℕ) → isSub (complete N set i) (N i) ≡ true → In (complete N set (suc i)) i
   unfolding complete
   complete-adds set i e = rw e (has-with-self (complete N set i) i)
+
+  -- what is completed up to row i holds besides the set only rows below i
+  pub complete-from : (set i k : ℕ) → In (complete N set i) k → (In set k) ⊎ (k < i)
+  unfolding complete
+  complete-from set zero k h = inl h
+  complete-from set (suc i) k h =
+      complete-cases set i k h (λ r. ⊎-elim (λ p. inl p) (λ l. inr (omega arith)) (complete-from set i k r)) (λ p e. inr (omega arith))
 
   complete-inside : (set i n : ℕ) → i ≤ n → ((k : ℕ) → In set k → k < n) → (k : ℕ) → In (complete N set i) k → k < n
   unfolding complete
@@ -155,19 +167,30 @@ module _ (N : ℕ → ℕ) where
           (λ p. clash (sub-of set (N i) (λ k hk. subst (λ (x : ℕ). In (N x) k) p (f k hk))) e);
     }
 
+    -- row i, beside a part of a set that it complements: these rows too complement each other
+    module _ (i set part : ℕ) (lt : i < n) (m : Mutual N i set) (sub : (k : ℕ) → In part k → In set k) (near : (k : ℕ) → In part k → In (N i) k) where
+      pub row-mutual : Mutual N (suc i) (withRow part i)
+      row-mutual = record {
+        inside = λ k h. has-with-cases part i k h (λ r. let l = m .inside k (sub k r) in omega arith) (λ p. omega arith);
+        clique = λ j k hj hk d.
+            has-with-cases part i j hj
+            (λ rj. has-with-cases part i k hk (λ rk. m .clique j k (sub j rj) (sub k rk) d)
+            (λ p. let l = m .inside j (sub j rj) in subst (λ (x : ℕ). In (N j) x) (sym p) (g .symmetric j i (omega arith) lt ∙ near j rj)))
+            (λ p. has-with-cases part i k hk (λ rk. subst (λ (x : ℕ). In (N x) k) (sym p) (near k rk)) (λ q. absurd (d (p ∙ sym q))));
+      }
+
     -- row i, beside a part of a maximal set
     row-max : (i set part : ℕ) → i < n → Max (adjacent N) i set → ((k : ℕ) → In part k → In set k) → ((k : ℕ) → In part k → In (N i) k)
         → ((j : ℕ) → j < i → ((k : ℕ) → In (withRow part i) k → In (N j) k) → ⊥) → Max (adjacent N) (suc i) (withRow part i)
     row-max i set part lt m sub near full = record {
-      inside = λ k h. has-with-cases part i k h (λ r. let l = m .inside k (sub k r) in omega arith) (λ p. omega arith);
-      clique = λ j k hj hk d.
-          has-with-cases part i j hj
-          (λ rj. has-with-cases part i k hk (λ rk. m .clique j k (sub j rj) (sub k rk) d)
-          (λ p. let l = m .inside j (sub j rj) in subst (λ (x : ℕ). In (N j) x) (sym p) (g .symmetric j i (omega arith) lt ∙ near j rj)))
-          (λ p. has-with-cases part i k hk (λ rk. subst (λ (x : ℕ). In (N x) k) (sym p) (near k rk)) (λ q. absurd (d (p ∙ sym q))));
+      inside = rows .inside;
+      clique = rows .clique;
       full = λ j h f. below-cases j i h (λ l. full j l f)
           (λ p. clash (f i (has-with-self part i)) (subst (λ (x : ℕ). has (N x) i ≡ false) (sym p) (g .apart i lt)));
     }
+      where
+        rows : Mutual N (suc i) (withRow part i)
+        rows = row-mutual i set part lt (record { inside = m .inside; clique = m .clique }) sub near
 
     pub step-max : (i set next : ℕ) → i < n → Max (adjacent N) i set → Step N i set next → Max (adjacent N) (suc i) next
     step-max i set next lt m (joined s e) =

@@ -1,24 +1,22 @@
--- A turn of each loop of the search and each of its returns, as the program makes them. Assumes nothing.
-use mathlib.Core.Path.{_≡_, refl, sym, ap, _∙_, subst}
-use mathlib.Core.Bool.{Bool, true, false, not, _&&_}
+-- Rows that the search passes, and each of its returns, as the program makes them. Assumes nothing.
+use mathlib.Core.Path.{_≡_, refl, sym, ap, _∙_}
+use mathlib.Core.Bool.{Bool, true, false, _&&_}
 use mathlib.Core.List.{List}
 use Prim.Native.Nat.{ℕ, zero, suc, _+_, _-_, _*_, _%_, _^_, _≤_, _<_}
-use native.Mathlib.Nat.{sub-zero, not-suc-le-zero, one-mul, add-zero, add-suc}
+use native.Mathlib.Nat.{sub-zero, one-mul, add-zero, add-suc}
 use native.Mathlib.Numerals.{add-one}
 use native.Mathlib.Omega.{arith}
 use lib.Pow.{shl-exact}
 use lib.Dec.{eqb, leb, lit<}
 use lib.ListN.{length, take}
 use lib.Seq.{length-take-le}
-use borrow.Author.Tests.{eqb-true, eqb-false, eq-eqb, not-true, ne-eqb, le-leb, lt-leb}
+use borrow.Author.Tests.{eqb-true, eqb-false, ne-eqb, le-leb, lt-leb}
 use Rattle.definitions.specs.Ascending.{insert}
-use Rattle.definitions.specs.Statements.{Rising}
-use Rattle.definitions.proofs.Bools.{bool-cases, clash, and-l, and-r, and-i}
-use Rattle.definitions.proofs.Lists.{below-cases}
+use Rattle.definitions.proofs.Bools.{bool-cases, clash}
 use Rattle.cliques.specs.Bits.{has, both, isSub, withRow, compareBits}
-use Rattle.cliques.specs.Search.{Ready, complete, isFull, taken, mayTake, isFar, searchSets}
+use Rattle.cliques.specs.Search.{Far, complete, isFull, taken, mayTake, searchSets}
 use Rattle.cliques.proofs.Bits.{In, has-none, sub-of}
-use Rattle.cliques.proofs.Maximal.{complete-more, complete-adds}
+use Rattle.cliques.proofs.Maximal.{complete-later, complete-adds}
 
 -- a one shifted to a place of a word
 pub bit-at : (width k : ℕ) → k < width → (1 * 2 ^ k) % 2 ^ width ≡ 2 ^ k
@@ -28,132 +26,35 @@ and-no : (b : Bool) → (b && false) ≡ false
 and-no true = refl
 and-no false = refl
 
--- ready for a row, and so for one past far rows
-pub ready-past : {width cap : ℕ} {neighbours : List ℕ} {i undecided : ℕ} {list : List ℕ} {count : ℕ} → Ready width cap neighbours i undecided list count
-    → (passed : ℕ) → passed ≤ undecided → Ready width cap neighbours (i + passed) (undecided - passed) list count
-ready-past r passed h = record {
-  rows = omega (arith, r .rows);
-  bits = omega (arith, r .bits);
-  room = r .room;
-  few = r .few;
-  order = r .order;
-}
-
--- ready for a row, and so for the next, with what the list holds by then
-pub ready-next : {width cap : ℕ} {neighbours : List ℕ} {i undecided : ℕ} {list : List ℕ} {count : ℕ} → Ready width cap neighbours i undecided list count
-    → (undecided ≡ 0 → ⊥) → (grown : List ℕ) (found : ℕ) → length grown ≡ length list → found ≤ cap → Rising compareBits (take found grown)
-    → Ready width cap neighbours (i + 1) (undecided - 1) grown found
-ready-next r some grown found size few order = record {
-  rows = omega (arith, r .rows);
-  bits = omega (arith, r .bits);
-  room = omega (arith, r .room);
-  few = few;
-  order = order;
-}
-
 module _ (N : ℕ → ℕ) where
-  -- ---- completion, up to row k
-
-  pub complete-none : (part : ℕ) → part ≡ complete N part 0
+  complete-none : (part : ℕ) → part ≡ complete N part 0
   unfolding complete
   complete-none part = refl
 
-  module _ (part grown k : ℕ) (e : grown ≡ complete N part k) where
-    pub complete-yes : isSub grown (N k) ≡ true → withRow grown k ≡ complete N part (k + 1)
-    unfolding complete
-    complete-yes s = rw (add-one, ← e, s)
-
-    pub complete-no : isSub grown (N k) ≡ false → grown ≡ complete N part (k + 1)
-    unfolding complete
-    complete-no s = rw (add-one, ← e, s)
-
-    later : (m : ℕ) → In (complete N part (suc k)) k → In (complete N part (suc k + m)) k
-    later zero h = subst (λ (j : ℕ). In (complete N part j) k) (sym (add-zero (suc k))) h
-    later (suc m) h = subst (λ (j : ℕ). In (complete N part j) k) (sym (add-suc (suc k) m)) (complete-more N part (suc k + m) k (later m h))
-
-    -- a row too many
-    pub complete-off : (set i : ℕ) → k < i → isSub grown (N k) ≡ true → has set k ≡ false → false ≡ eqb (complete N part i) set
-    complete-off set i h s f =
-        let there : In (complete N part i) k =
-        subst (λ (j : ℕ). In (complete N part j) k) (let z : suc k + (i - suc k) ≡ i = omega arith in z)
-        (later (i - suc k) (complete-adds N part k (ap (λ (x : ℕ). isSub x (N k)) (sym e) ∙ s))) in
-        sym (ne-eqb (complete N part i) set (λ q. clash there (ap (λ (x : ℕ). has x k) q ∙ f)))
-
-  -- ---- the test for a maximal set, up to row k
-
-  pub full-none : (set : ℕ) → isFull N set 0 ≡ true
-  unfolding isFull
-  full-none set = refl
-
-  pub full-more : (set k : ℕ) → isFull N set k ≡ true → isSub set (N k) ≡ false → isFull N set (k + 1) ≡ true
-  unfolding isFull
-  full-more set k e s = rw (add-one, e, s)
-
-  pub full-never : (set k i : ℕ) → k < i → isSub set (N k) ≡ true → isFull N set i ≡ false
-  unfolding isFull
-  full-never set k zero h s = absurd (not-suc-le-zero h)
-  full-never set k (suc i) h s =
-      below-cases k i h
-      (λ lt. ap (λ (x : Bool). x && not (isSub set (N i))) (full-never set k i lt s))
-      (λ p. ap (λ (y : Bool). isFull N set i && not y) (ap (λ (x : ℕ). isSub set (N x)) (sym p) ∙ s) ∙ and-no (isFull N set i))
-
-  -- ---- the test for taking row i: `next` is what is taken, `part` what the row leaves of the set
-
-  module _ (set i next : ℕ) (full : Bool) (en : next ≡ taken N set i) (ef : full ≡ isFull N next i) where
-    full-is : full ≡ isFull N (taken N set i) i
-    full-is = ef ∙ ap (λ (x : ℕ). isFull N x i) en
-
-    pub may-yes : (part : ℕ) (b : Bool) → full ≡ true → part ≡ both set (N i) → b ≡ eqb (complete N part i) set → b ≡ mayTake N set i
-    unfolding mayTake
-    may-yes part b t ep eb =
-        eb ∙ ap (λ (x : ℕ). eqb (complete N x i) set) ep
-        ∙ ap (λ (x : Bool). x && eqb (complete N (both set (N i)) i) set) (sym t ∙ full-is)
-
-    pub may-no : full ≡ false → false ≡ mayTake N set i
-    unfolding mayTake
-    may-no t = ap (λ (x : Bool). x && eqb (complete N (both set (N i)) i) set) (sym t ∙ full-is)
-
   -- ---- far rows
 
-  pub far-of : (set i : ℕ) → (set ≡ 0 → ⊥) → has set 0 ≡ false → both set (N i) ≡ 0 → isFar N set i ≡ true
-  unfolding isFar
-  far-of set i some low none = and-i (and-i (ap not (ne-eqb set 0 some)) (ap not low)) (eq-eqb (both set (N i)) 0 none)
-
-  module _ (set i : ℕ) (far : isFar N set i ≡ true) where
-    some-set : set ≡ 0 → ⊥
-    unfolding isFar
-    some-set =
-        eqb-false set 0 (not-true (eqb set 0) (and-l (not (eqb set 0)) (not (has set 0)) (and-l (not (eqb set 0) && not (has set 0)) (eqb (both set (N i)) 0) far)))
-
-    no-first : has set 0 ≡ false
-    unfolding isFar
-    no-first = not-true (has set 0) (and-r (not (eqb set 0)) (not (has set 0)) (and-l (not (eqb set 0) && not (has set 0)) (eqb (both set (N i)) 0) far))
-
-    none-near : both set (N i) ≡ 0
-    unfolding isFar
-    none-near = eqb-true (both set (N i)) 0 (and-r (not (eqb set 0) && not (has set 0)) (eqb (both set (N i)) 0) far)
-
+  module _ (set i : ℕ) (some : set ≡ 0 → ⊥) (first : has set 0 ≡ false) (none : both set (N i) ≡ 0) where
     -- the empty set is completed to one with row 0
     first-in : (k : ℕ) → 0 < k → In (complete N 0 k) 0
     first-in k h =
-        subst (λ (j : ℕ). In (complete N 0 j) 0) (let z : 1 + (k - 1) ≡ k = omega arith in z)
-        (later 0 0 0 (complete-none 0) (k - 1) (complete-adds N 0 0 (sub-of (complete N 0 0) (N 0) (λ j r. absurd (clash (ap (λ (x : ℕ). has x j) (complete-none 0) ∙ r) (has-none j))))))
+        complete-later N 0 1 k 0 h
+        (complete-adds N 0 0 (sub-of (complete N 0 0) (N 0) (λ j r. absurd (clash (ap (λ (x : ℕ). has x j) (complete-none 0) ∙ r) (has-none j)))))
 
     far-leaves : isSub set (N i) ≡ false
     unfolding isSub
-    far-leaves = ap (λ (x : ℕ). eqb x set) none-near ∙ ne-eqb 0 set (λ e. some-set (sym e))
+    far-leaves = ap (λ (x : ℕ). eqb x set) none ∙ ne-eqb 0 set (λ e. some (sym e))
 
     no-origin : complete N 0 i ≡ set → ⊥
     no-origin e =
         bool-cases (eqb i 0)
-        (λ t. some-set (sym e ∙ ap (complete N 0) (eqb-true i 0 t) ∙ sym (complete-none 0)))
-        (λ t. let d = eqb-false i 0 t in clash (first-in i (omega arith)) (ap (λ (x : ℕ). has x 0) e ∙ no-first))
+        (λ t. some (sym e ∙ ap (complete N 0) (eqb-true i 0 t) ∙ sym (complete-none 0)))
+        (λ t. let d = eqb-false i 0 t in clash (first-in i (omega arith)) (ap (λ (x : ℕ). has x 0) e ∙ first))
 
     far-not-taken : mayTake N set i ≡ false
     unfolding mayTake
     far-not-taken =
         ap (λ (b : Bool). isFull N (taken N set i) i && b)
-        (ne-eqb (complete N (both set (N i)) i) set (λ e. no-origin (ap (λ (x : ℕ). complete N x i) (sym none-near) ∙ e)))
+        (ne-eqb (complete N (both set (N i)) i) set (λ e. no-origin (ap (λ (x : ℕ). complete N x i) (sym none) ∙ e)))
         ∙ and-no (isFull N (taken N set i) i)
 
   -- ---- the search, return by return: the list is the first `count` words
@@ -171,19 +72,21 @@ module _ (N : ℕ → ℕ) where
     search-stops (suc f) h = rw (le-leb cap (length l) (omega (arith, held)))
 
     -- far rows are passed
-    pass-one : (f j : ℕ) → count < cap → isFar N set j ≡ true → searchSets N cap (suc f) j set l ≡ searchSets N cap f (suc j) set l
+    pass-one : (f j around : ℕ) → count < cap → Far around set j → both set (N j) ≡ 0 → searchSets N cap (suc f) j set l ≡ searchSets N cap f (suc j) set l
     unfolding searchSets
-    pass-one f j h far = rw (lt-leb cap (length l) (omega (arith, held)), far-leaves set j far, far-not-taken set j far)
+    pass-one f j around h far none =
+        rw (lt-leb cap (length l) (omega (arith, held)), far-leaves set j (far .some) (far .first) none, far-not-taken set j (far .some) (far .first) none)
 
-    pub search-passes : (undecided passed : ℕ) → count < cap → passed ≤ undecided → ((k : ℕ) → k < passed → isFar N set (i + k) ≡ true)
+    pub search-passes : (undecided around passed : ℕ) → count < cap → passed ≤ undecided → ((k : ℕ) → k < passed → Far around set (i + k))
+        → ((k : ℕ) → k < passed → both set (N (i + k)) ≡ 0)
         → searchSets N cap (undecided - passed) (i + passed) set l ≡ searchSets N cap undecided i set l
-    search-passes undecided zero few h far = rw (sub-zero, add-zero)
-    search-passes undecided (suc p) few h far =
+    search-passes undecided around zero few h far none = rw (sub-zero, add-zero)
+    search-passes undecided around (suc p) few h far none =
         let one : undecided - p ≡ suc (undecided - suc p) = omega arith in
         ap (λ (j : ℕ). searchSets N cap (undecided - suc p) j set l) (add-suc i p)
-        ∙ sym (pass-one (undecided - suc p) (i + p) few (far p (omega arith)))
+        ∙ sym (pass-one (undecided - suc p) (i + p) around few (far p (omega arith)) (none p (omega arith)))
         ∙ ap (λ (f : ℕ). searchSets N cap f (i + p) set l) (sym one)
-        ∙ search-passes undecided p few (omega arith) (λ k lt. far k (omega arith))
+        ∙ search-passes undecided around p few (omega arith) (λ k lt. far k (omega arith)) (λ k lt. none k (omega arith))
 
     pub search-lists : (undecided : ℕ) → undecided ≡ 0 → count < cap → insert compareBits set l ≡ searchSets N cap undecided i set l
     unfolding searchSets

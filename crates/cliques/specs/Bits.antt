@@ -1,6 +1,7 @@
 -- Sets of positions as numbers: bit k says whether position k is in the set. No width stands here: a set in several words is the number that they make.
-use mathlib.Core.Bool.{Bool, cond}
-use Prim.Native.Nat.{ℕ, _/_, _%_, _^_}
+use mathlib.Core.Path.{_≡_}
+use mathlib.Core.Bool.{Bool, true, cond}
+use Prim.Native.Nat.{ℕ, _-_, _/_, _%_, _^_, _<_}
 use lib.Bits.{bitAnd, bitOr, bitXor}
 use lib.Count.{trailingZeros}
 use lib.Dec.{eqb}
@@ -27,9 +28,21 @@ withRow set k = bitOr set (2 ^ k)
 unfoldable pub onlyOne : ℕ → ℕ → ℕ
 onlyOne a b = bitXor a b
 
+-- the positions below i
+unfoldable pub rowsBelow : ℕ → ℕ
+rowsBelow i = 2 ^ i - 1
+
+-- all of the set lies below n
+abbrev pub Inside : ℕ → ℕ → Type 0
+Inside set n = (k : ℕ) → has set k ≡ true → k < n
+
 -- the smallest position of a set that is not empty: a number has fewer digits than it counts
 unfoldable pub lowest : ℕ → ℕ
 lowest set = trailingZeros set set
+
+-- the set without its smallest position: one less has another digit there and below, and no other above
+unfoldable pub withoutLowest : ℕ → ℕ
+withoutLowest set = bitAnd set (set - 1)
 
 -- set order: "look at the smallest position that only one of them holds: the set with it comes first"
 unfoldable pub compareBits : ℕ → ℕ → Order

@@ -17,5 +17,5 @@ pub fn find_sets(neighbours: &[u64], n: usize, list: &mut [u64]) -> usize
     if n == 0 {
         return 0;
     }
-    search::search(neighbours, 0, n, 0, list, 0)
+    search::search(neighbours, 0, n, 0, 0, list, 0)
 }

@@ -2,7 +2,7 @@
 use definitions::Order;
 ghost use mathlib.Core.Path.{_≡_};
 ghost use Prim.Native.Nat.{_<_};
-ghost use Rattle.cliques.specs.Bits.{has, both, isSub, withRow, compareBits};
+ghost use Rattle.cliques.specs.Bits.{has, both, isSub, withRow, rowsBelow, lowest, withoutLowest, compareBits};
 
 // Is row k in the set?
 pub(crate) fn has_row(set: u64, k: usize) -> bool
@@ -32,6 +32,30 @@ pub(crate) fn with_row(set: u64, k: usize) -> u64
     ensures { λ r. ⌜ r ≡ withRow set k ⌝ }
 {
     set | (1u64 << k)
+}
+
+// The rows below i.
+pub(crate) fn below(i: usize) -> u64
+    requires { ⌜ i < 64 ⌝ }
+    ensures { λ r. ⌜ r ≡ rowsBelow i ⌝ }
+{
+    (1u64 << i) - 1
+}
+
+// The smallest row of a set.
+pub(crate) fn lowest_row(set: u64) -> usize
+    requires { ⌜ 0 < set ⌝ }
+    ensures { λ r. ⌜ r ≡ lowest set ⌝ }
+{
+    u64::trailing_zeros(set) as usize
+}
+
+// The set without its smallest row.
+pub(crate) fn without_lowest(set: u64) -> u64
+    requires { ⌜ 0 < set ⌝ }
+    ensures { λ r. ⌜ r ≡ withoutLowest set ⌝ }
+{
+    set & (set - 1)
 }
 
 // Set order, by the smallest row that only one of them holds.

@@ -1,18 +1,15 @@
--- Two rows compared: cell by cell whether they agree, and by their patterns whether they complement each other. Assumes nothing.
+-- Two rows compared cell by cell. Assumes nothing.
 use mathlib.Core.Path.{_≡_, refl, sym, _∙_, ap, ap₂}
 use mathlib.Core.Bool.{Bool, true, false, not, _&&_, _||_}
 use mathlib.Core.List.{List}
 use Prim.Native.Nat.{ℕ, _+_, _<_, _≤_}
 use native.Mathlib.Omega.{arith}
-use lib.Bits.{bitAnd}
 use lib.Dec.{eqb}
 use lib.ListN.{length, getD, drop}
 use borrow.Author.Tests.{eq-eqb, ne-eqb}
 use Rattle.definitions.specs.Word.{isFilled}
-use Rattle.definitions.specs.ComplementUnion.{agree, complement}
+use Rattle.definitions.specs.ComplementUnion.{agree}
 use Rattle.lists.proofs.Walks.{next, end}
-use Rattle.patterns.specs.Pattern.{patternOf}
-use Rattle.patterns.proofs.Columns.{complement-patterns}
 
 -- two cells of a column are equal, or one is empty
 abbrev pub cellsAgree : ℕ → ℕ → Bool
@@ -61,34 +58,3 @@ module _ (s t : List ℕ) (i : ℕ) (agreed : Bool) (same : length s ≡ length 
       last : (b : Bool) → (b && true) ≡ b
       last true = refl
       last false = refl
-
--- ---- rows of the patterns p and q
-
-module _ (s t : List ℕ) (p q : ℕ) (same : length s ≡ length t) (ep : p ≡ patternOf s) (eq : q ≡ patternOf t) where
-  by-patterns : complement s t
-      ≡ (not (eqb (bitAnd p q) p) && (not (eqb (bitAnd p q) q) && (not (eqb (bitAnd p q) 0) && agree s t)))
-  by-patterns = complement-patterns s t same ∙ rw (← ep, ← eq)
-
-  -- no column is filled in both: no shared number
-  pub apart-no : bitAnd p q ≡ 0 → false ≡ complement s t
-  apart-no e = sym (by-patterns ∙ rw (eq-eqb (bitAnd p q) 0 e) (never (not (eqb (bitAnd p q) p)) (not (eqb (bitAnd p q) q))))
-    where
-      never : (a b : Bool) → (a && (b && false)) ≡ false
-      never true true = refl
-      never true false = refl
-      never false b = refl
-
-  -- no column is filled in the first alone
-  pub first-no : bitAnd p q ≡ p → false ≡ complement s t
-  first-no e = sym (by-patterns ∙ rw (eq-eqb (bitAnd p q) p e))
-
-  -- no column is filled in the second alone
-  pub second-no : bitAnd p q ≡ q → false ≡ complement s t
-  second-no e = sym (by-patterns ∙ rw (eq-eqb (bitAnd p q) q e) (never (not (eqb (bitAnd p q) p))))
-    where
-      never : (a : Bool) → (a && false) ≡ false
-      never true = refl
-      never false = refl
-
-  pub agree-left : (bitAnd p q ≡ 0 → ⊥) → (bitAnd p q ≡ p → ⊥) → (bitAnd p q ≡ q → ⊥) → agree s t ≡ complement s t
-  agree-left z f g = sym (by-patterns ∙ rw (ne-eqb (bitAnd p q) 0 z, ne-eqb (bitAnd p q) p f, ne-eqb (bitAnd p q) q g))

@@ -2,8 +2,11 @@
 pub mod Lists
 pub mod Parts
 pub mod Agreeing
-pub mod Neighbours
 pub mod Columns
+pub mod Apart
+pub mod Candidates
+pub mod Seeing
+pub mod Neighbours
 pub mod Picks
 pub mod Joins
 pub mod Places

@@ -1,16 +1,20 @@
 -- Laws of lists: an element's image, one row more, marks as digits. Assumes nothing.
 use mathlib.Core.Path.{_≡_, refl, sym, _∙_, ap, ap₂}
-use mathlib.Core.Bool.{Bool, true, false, cond}
+use mathlib.Core.Bool.{Bool, true, false, cond, _&&_, _||_}
 use mathlib.Core.List.{List, [], _∷_, _++_, map}
 use Prim.Native.Nat.{ℕ, zero, suc, _+_, _*_, _%_, _^_, _<_, _≤_}
 use native.Mathlib.Nat.{le-of-suc-le-suc, not-suc-le-zero, pow-suc, zero-mul}
 use native.Mathlib.Omega.{arith}
-use lib.Bits.{bitOr, or-shifted-r}
+use lib.Bits.{bitOr, or-shifted-r, or-zero-r}
+use lib.Dec.{eqb}
 use lib.ListN.{length, getD, take, drop}
 use lib.Pow.{shl-exact}
 use lib.Seq.{take-suc, take-all, paste, drop-paste, getD-drop}
 use Rattle.definitions.specs.Image.{rowsIn}
 use Rattle.definitions.specs.SetList.{bits}
+use Rattle.cliques.specs.Bits.{has, withRow}
+use Rattle.cliques.proofs.Bits.{has-with}
+use Rattle.cliques.proofs.Steps.{bit-at}
 use Rattle.patterns.proofs.Patterns.{bit-small}
 use Rattle.lists.proofs.Flat.{rows-length, rows-take, rows-at}
 
@@ -18,11 +22,6 @@ pub map-at : {A B : Type 0} (f : A → B) (d : A) (e : B) (l : List A) (k : ℕ)
 map-at f d e [] k h = absurd (not-suc-le-zero h)
 map-at f d e (x ∷ l) zero h = refl
 map-at f d e (x ∷ l) (suc k) h = map-at f d e l k (le-of-suc-le-suc h)
-
-pub take-map : {A B : Type 0} (f : A → B) (k : ℕ) (l : List A) → take k (map f l) ≡ map f (take k l)
-take-map f zero l = refl
-take-map f (suc k) [] = refl
-take-map {B = B} f (suc k) (x ∷ l) = ap (λ (r : List B). f x ∷ r) (take-map f k l)
 
 -- the rows with the next one
 pub rows-snoc : (c n : ℕ) (w : List ℕ) → rowsIn c (n + 1) w ≡ rowsIn c n w ++ (take c (drop (n * c) w) ∷ [])
@@ -62,6 +61,18 @@ mark-next width s m w b k h e ew eb =
 -- a position that isn't held changes nothing
 pub bits-none : (s : List Bool) → bits (s ++ (false ∷ [])) ≡ bits s
 bits-none s = bits-snoc s false ∙ omega (arith, zero-mul (2 ^ length s))
+
+-- a mark joined to a set
+pub has-mark : (b : Bool) (w k i : ℕ) → k < 64 → has (bitOr w (cond b 1 0 * 2 ^ k % 2 ^ 64)) i ≡ (has w i || (b && eqb i k))
+unfolding withRow
+has-mark true w k i h = ap (λ (x : ℕ). has (bitOr w x) i) (bit-at 64 k h) ∙ has-with w k i
+has-mark false w k i h =
+    let none : 0 * 2 ^ k % 2 ^ 64 ≡ 0 = ap (λ (x : ℕ). x % 2 ^ 64) (zero-mul (2 ^ k)) in
+    ap (λ (x : ℕ). has (bitOr w x) i) none ∙ ap (λ (x : ℕ). has x i) (or-zero-r w) ∙ sym (last (has w i))
+  where
+    last : (b : Bool) → (b || false) ≡ b
+    last true = refl
+    last false = refl
 
 -- what stands after a list that is written over the front
 pub paste-rest : {A : Type 0} (d s cur : List A) (k : ℕ) (z : A) → k ≤ length s → cur ≡ paste d 0 s k → getD cur k z ≡ getD d k z

@@ -1,23 +1,82 @@
--- The places of rows among the distinct ones: what the search for one is asked and gives, and all of them one after the other. Assumes
--- nothing.
-use mathlib.Core.Path.{_≡_, sym, _∙_, ap, subst}
+-- The places of rows among the distinct ones: those that the numbers tell, what the search for one is asked and gives, and all of them one
+-- after the other. Assumes nothing.
+use mathlib.Core.Path.{_≡_, refl, sym, _∙_, ap, subst}
 use mathlib.Core.List.{List, [], _++_}
 use Prim.Native.Nat.{ℕ, _+_, _-_, _*_, _<_, _≤_}
 use native.Mathlib.Nat.{zero-add}
 use native.Mathlib.Omega.{arith}
-use lib.ListN.{length, set, take, drop, length-map}
-use lib.Seq.{paste, take-all}
+use lib.Dec.{eqb}
+use lib.ListN.{length, getD, set, take, drop, length-set, length-map, List·getD-map}
+use lib.Seq.{paste, take-all, length-take-le, drop-drop, drop-set-lt, getD-take, getD-set-same, getD-set-other, set-getD}
+use borrow.Author.Count.{below-more}
+use borrow.Author.Tests.{eqb-true, eqb-false}
 use Rattle.definitions.specs.Image.{rowsIn}
 use Rattle.definitions.specs.Lists.{place}
 use Rattle.definitions.specs.ComplementUnion.{sameRow}
 use Rattle.definitions.specs.Statements.{Stands}
+use Rattle.definitions.proofs.Bools.{bool-cases}
+use Rattle.definitions.proofs.Lists.{place-rising}
+use Rattle.definitions.proofs.Orders.{rows}
+use Rattle.definitions.proofs.Rows.{same-is}
 use Rattle.lists.proofs.Flat.{rows-length, rows-at}
 use Rattle.lists.proofs.Pastes.{Pasted, paste-turn}
-use Rattle.rows.specs.Numbers.{rowsAt, Listed, Ordered}
+use Rattle.rows.specs.Numbers.{rowAt, rowsAt, Below, Listed, Ordered}
+use Rattle.rows.proofs.Numbers.{below-at}
 use Rattle.rows.proofs.Places.{ordered-listed, ordered-stands}
-use Rattle.fusing.specs.Records.{placesIn}
-use Rattle.fusing.proofs.Lists.{map-at}
+use Rattle.fusing.specs.Records.{placesIn, Cleared, Placed}
+use Rattle.fusing.proofs.Lists.{map-at, paste-rest}
 use Rattle.fusing.proofs.Parts.{part-is, part-length}
+
+-- ---- the places that the numbers tell
+
+pub cleared-none : (m : ℕ) (found : List ℕ) → Cleared m 0 found found
+cleared-none m found = record { size = refl; clear = λ i h. absurd (omega arith); rest = refl }
+
+pub cleared-turn : (m k : ℕ) (found places : List ℕ) → k < length found → Cleared m k found places → Cleared m (k + 1) found (set places k m)
+cleared-turn m k found places h c =
+    let size : length places ≡ length found = c .size in
+    record {
+      size = length-set places k m ∙ size;
+      clear = below-more (λ (i : ℕ). getD (set places k m) i 0 ≡ m) k
+          (λ i g. getD-set-other places k i m 0 (λ q. omega arith) ∙ c .clear i g)
+          (getD-set-same places k m 0 (omega arith));
+      rest = drop-set-lt (k + 1) places k m (omega arith) ∙ sym (drop-drop 1 k places) ∙ ap (drop 1) (c .rest) ∙ drop-drop 1 k found;
+    }
+
+module _ (order : List ℕ) (m count : ℕ) where
+  pub placed-none : (found start : List ℕ) → Cleared m count found start → Placed order m count start start
+  placed-none found start c = record { size = refl; named = λ i h some. absurd (some (c .clear i h)); rest = refl }
+
+  pub placed-done : (found start places : List ℕ) → Cleared m count found start → Placed order m count start places → Placed order m count found places
+  placed-done found start places c p = record { size = p .size ∙ c .size; named = p .named; rest = p .rest ∙ c .rest }
+
+  pub number-small : (j : ℕ) → j < m → m ≤ length order → Below count (take m order) → getD order j 0 < count
+  number-small j h le below =
+      subst (λ (x : ℕ). x < count) (getD-take m order j 0 h) (below-at count (take m order) j below (omega (arith, length-take-le m order le)))
+
+  -- the number at j names its row
+  pub placed-turn : (found places : List ℕ) (j : ℕ) → j < m → m ≤ length order → Below count (take m order) → count ≤ length found
+      → Placed order m count found places → Placed order m count found (set places (getD order j 0) j)
+  placed-turn found places j h le below room p =
+      let size : length places ≡ length found = p .size in
+      let k = getD order j 0 in
+      let small : k < count = number-small j h le below in
+      record {
+        size = length-set places k j ∙ size;
+        named = λ i g some.
+            bool-cases (eqb i k)
+            (λ e.
+            let q : i ≡ k = eqb-true i k e in
+            let here : getD (set places k j) i 0 ≡ j = ap (λ (x : ℕ). getD (set places k j) x 0) q ∙ getD-set-same places k j 0 (omega arith) in
+            (omega arith, ap (λ (x : ℕ). getD order x 0) here ∙ sym q))
+            (λ e.
+            let here : getD (set places k j) i 0 ≡ getD places i 0 = getD-set-other places k i j 0 (eqb-false i k e) in
+            let old = p .named i g (λ z. some (here ∙ z)) in
+            (omega (arith, old .0), ap (λ (x : ℕ). getD order x 0) here ∙ old .1));
+        rest = drop-set-lt count places k j small ∙ p .rest;
+      }
+
+-- ---- all places
 
 -- the numbers l name the distinct rows among the n that stand in w
 module _ (c n : ℕ) (w l : List ℕ) (fits : n * c ≤ length w) (o : Ordered c n w l) where
@@ -27,6 +86,21 @@ module _ (c n : ℕ) (w l : List ℕ) (fits : n * c ≤ length w) (o : Ordered c
   places-length : length placesOf ≡ n
   unfolding placesIn
   places-length = length-map (rowsIn c n w) (λ r. place (sameRow r) (rowsAt c w l)) ∙ rows-length c n w
+
+  place-is : (i : ℕ) → i < n → getD placesOf i 0 ≡ place (sameRow (rowAt c w i)) (rowsAt c w l)
+  unfolding placesIn
+  place-is i more =
+      map-at (λ s. place (sameRow s) (rowsAt c w l)) [] 0 (rowsIn c n w) i (omega (arith, rows-length c n w))
+      ∙ ap (λ (s : List ℕ). place (sameRow s) (rowsAt c w l)) (rows-at c n i w more)
+
+  -- the number of the row i stands at p
+  place-named : (i p : ℕ) → i < n → p < length l → getD l p 0 ≡ i → p ≡ getD placesOf i 0
+  place-named i p more h e =
+      let same : getD (rowsAt c w l) p (rowAt c w 0) ≡ rowAt c w i = List·getD-map (rowAt c w) l p 0 ∙ ap (rowAt c w) e in
+      sym
+      (place-is i more
+      ∙ ap (λ (s : List ℕ). place (sameRow s) (rowsAt c w l)) (sym same)
+      ∙ place-rising rows sameRow same-is (rowAt c w 0) (rowsAt c w l) p (ordered-listed c n w l o fits .rising) (omega (arith, length-map l (rowAt c w))))
 
   -- the row i
   module _ (i at : ℕ) (more : i < n) (here : at ≡ i * c) where
@@ -43,18 +117,41 @@ module _ (c n : ℕ) (w l : List ℕ) (fits : n * c ≤ length w) (o : Ordered c
 
     pub places-turn : (found now : List ℕ) (r : ℕ) → n ≤ length found → r ≡ place (sameRow part) (rowsAt (length part) w l)
         → Pasted found 0 placesOf i now → Pasted found 0 placesOf (i + 1) (set now i r)
-    unfolding placesIn
     places-turn found now r room e p =
         let size : length placesOf ≡ n = places-length in
         paste-turn found 0 placesOf i i now 0 r p (sym (zero-add i)) (omega arith) (omega arith)
         (e
         ∙ ap (λ (k : ℕ). place (sameRow part) (rowsAt k w l)) (part-length c n i w fits more at here)
-        ∙ ap (λ (s : List ℕ). place (sameRow s) (rowsAt c w l)) (part-is c n i w fits more at here ∙ sym (rows-at c n i w more))
-        ∙ sym (map-at (λ s. place (sameRow s) (rowsAt c w l)) [] 0 (rowsIn c n w) i (omega (arith, rows-length c n w))))
+        ∙ ap (λ (s : List ℕ). place (sameRow s) (rowsAt c w l)) (part-is c n i w fits more at here)
+        ∙ sym (place-is i more))
 
-  pub places-end : (found now : List ℕ) (k : ℕ) → k ≡ n → Pasted found 0 placesOf k now → now ≡ placesOf ++ drop n found
-  places-end found now k e p =
+  -- the row i, whose place is there
+  places-there : (i : ℕ) → i < n → (found now : List ℕ) → n ≤ length found → getD found i 0 < length l → getD l (getD found i 0) 0 ≡ i
+      → Pasted found 0 placesOf i now → Pasted found 0 placesOf (i + 1) now
+  places-there i more found now room h e p =
+      let size : length placesOf ≡ n = places-length in
+      let old : getD now i 0 ≡ getD found i 0 = paste-rest found placesOf now i 0 (omega arith) (p .words) in
+      subst (λ (x : List ℕ). Pasted found 0 placesOf (i + 1) x) (set-getD now i 0)
+      (paste-turn found 0 placesOf i i now 0 (getD now i 0) p (sym (zero-add i)) (omega arith) (omega arith)
+      (old ∙ place-named i (getD found i 0) more h e))
+
+  pub places-end : (found start now : List ℕ) (k : ℕ) → k ≡ n → drop n start ≡ drop n found → Pasted start 0 placesOf k now → now ≡ placesOf ++ drop n found
+  places-end found start now k e rest p =
       p .words
-      ∙ ap (paste found 0 placesOf) e
-      ∙ ap (λ (s : List ℕ). s ++ drop (0 + n) found) (take-all n placesOf (omega (arith, places-length)))
-      ∙ ap (λ (i : ℕ). placesOf ++ drop i found) (zero-add n)
+      ∙ ap (paste start 0 placesOf) e
+      ∙ ap (λ (s : List ℕ). s ++ drop (0 + n) start) (take-all n placesOf (omega (arith, places-length)))
+      ∙ ap (λ (i : ℕ). placesOf ++ drop i start) (zero-add n)
+      ∙ ap (λ (s : List ℕ). placesOf ++ s) rest
+
+-- the place of the row i is not m: it is there
+pub places-stay : (c n : ℕ) (w order : List ℕ) (m : ℕ) (fits : n * c ≤ length w) (o : Ordered c n w (take m order)) → m ≤ length order
+    → (i : ℕ) → i < n → (found start now : List ℕ) → n ≤ length found → Placed order m n found start → (getD now i 0 ≡ m → ⊥)
+    → Pasted start 0 (placesOf c n w (take m order) fits o) i now → Pasted start 0 (placesOf c n w (take m order) fits o) (i + 1) now
+places-stay c n w order m fits o le i more found start now room placed some p =
+    let places = placesOf c n w (take m order) fits o in
+    let size : length places ≡ n = places-length c n w (take m order) fits o in
+    let same : length start ≡ length found = placed .size in
+    let old : getD now i 0 ≡ getD start i 0 = paste-rest start places now i 0 (omega arith) (p .words) in
+    let told = placed .named i more (λ z. some (old ∙ z)) in
+    places-there c n w (take m order) fits o i more start now (omega arith) (omega (arith, told .0, length-take-le m order le))
+    (getD-take m order (getD start i 0) 0 (told .0) ∙ told .1) p

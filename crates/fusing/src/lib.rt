@@ -4,7 +4,6 @@ mod join;
 mod list;
 
 pub use graph::agree_rows;
-pub use graph::complement_rows;
 pub use graph::fill_neighbours;
 pub use join::join_sets;
 pub use list::places_of;

@@ -11,7 +11,7 @@ ghost use Rattle.definitions.specs.Limits.{maxSets, setWidth};
 ghost use Rattle.definitions.specs.Word.{wordOf};
 ghost use Rattle.definitions.specs.Image.{rowsIn};
 ghost use Rattle.rows.specs.Numbers.{rowsAt, Below, Ordered};
-ghost use Rattle.fusing.specs.Records.{placesIn, recordOf, listOf};
+ghost use Rattle.fusing.specs.Records.{placesIn, Cleared, Placed, recordOf, listOf};
 
 // The mark words of a record.
 const MARK_WORDS: usize = 3;
@@ -19,7 +19,33 @@ const MARK_WORDS: usize = 3;
 // The words of a record.
 const SET_WIDTH: usize = 4;
 
-// Writes the place of each of the first count rows among the distinct ones, whose numbers stand in ascending order of the rows.
+// Writes m, which is no place, for each of the first count rows.
+fn clear_places(m: usize, count: usize, places: &mut [u32])
+    requires { ⌜ (m ≤ maxSets) × (count ≤ length (now places)) ⌝ }
+    ensures { λ r. ⌜ Cleared m count (now (places .entry)) (now (places .exit)) ⌝ }
+{
+    let mut k = 0;
+    while k < count {
+        places[k] = m as u32;
+        k += 1;
+    }
+}
+
+// Writes the place of each row that is named by one of the first m numbers, and m for the others of the first count rows.
+fn mark_named(order: &[u32], m: usize, count: usize, places: &mut [u32])
+    requires { ⌜ (m ≤ maxSets) × (m ≤ length (now order)) × Below count (take m (now order)) × (count ≤ length (now places)) ⌝ }
+    ensures { λ r. ⌜ Placed (now (order .entry)) m count (now (places .entry)) (now (places .exit)) ⌝ }
+{
+    clear_places(m, count, places);
+    let mut j = 0;
+    while j < m {
+        places[order[j] as usize] = j as u32;
+        j += 1;
+    }
+}
+
+// Writes the place of each of the first count rows among the distinct ones, whose numbers stand in ascending order of the rows. Only a
+// row that equals another, and is named by the other's number, is sought.
 pub fn places_of(
     cells: &[u32],
     width: usize,
@@ -31,13 +57,19 @@ pub fn places_of(
     requires { ⌜ (count * width ≤ length (now cells)) × (m ≤ maxSets) × (m ≤ length (now order)) × Ordered width count (now cells) (take m (now order)) × (count ≤ length (now places)) ⌝ }
     ensures { λ r. ⌜ now (places .exit) ≡ placesIn (rowsAt width (now (cells .entry)) (take m (now (order .entry)))) (rowsIn width count (now (cells .entry))) ++ drop count (now (places .entry)) ⌝ }
 {
+    mark_named(order, m, count, places);
     let mut k = 0;
     let mut at = 0;
     while k < count {
         let next = at + width;
-        places[k] = place_of(cells, order, m, &cells[at..next]) as u32;
-        at = next;
-        k += 1;
+        if places[k] as usize == m {
+            places[k] = place_of(cells, order, m, &cells[at..next]) as u32;
+            at = next;
+            k += 1;
+        } else {
+            at = next;
+            k += 1;
+        }
     }
 }
 

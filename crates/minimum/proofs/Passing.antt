@@ -17,7 +17,8 @@ use Rattle.definitions.proofs.Bools.{bool-cases}
 use Rattle.definitions.proofs.Rows.{cell-filled}
 use Rattle.cliques.specs.Bits.{has, both}
 use Rattle.cliques.proofs.Bits.{has-low, has-suc, has-none, both-in, trailing-lowest}
-use Rattle.minimum.specs.Marks.{slotOf, MarkedFor, Candidates, NextOf}
+use Rattle.patterns.specs.Marks.{slotOf, MarkedFor}
+use Rattle.minimum.specs.Marks.{Candidates, NextOf}
 
 -- ---- the candidates, cell by cell
 

@@ -22,7 +22,8 @@ use Rattle.definitions.proofs.Subsumption.{subsumes-is, subsumes-self}
 use Rattle.lists.proofs.Flat.{rows-length, rows-at, row-fits, part-row}
 use Rattle.cliques.specs.Bits.{has}
 use Rattle.minimum.specs.Trying.{isSubsumed, triesAt}
-use Rattle.minimum.specs.Marks.{MarkedFor, Candidates, NextOf, Prepared}
+use Rattle.patterns.specs.Marks.{MarkedFor}
+use Rattle.minimum.specs.Marks.{Candidates, NextOf, Prepared}
 use Rattle.minimum.proofs.Covering.{covers-next, covers-end}
 use Rattle.minimum.proofs.OtherRows.{Passed, others-all, others-before, others-after}
 

@@ -1,31 +1,12 @@
-// The rows that may cover a row. Each cell of row j sets bit j of a mark word, that of its column and last hexadecimal digit. A row that
-// covers another has the filled cells of the other, and so its bit in their mark words; few other rows have it in all of them.
-ghost use mathlib.Core.Path.{_≡_};
+// The rows that may cover a row. A row that covers another has the filled cells of the other, and so its bit in their mark words; few other
+// rows have it in all of them.
 ghost use Prim.Native.Nat.{_*_, _≤_, _<_};
 ghost use lib.ListN.{length};
 ghost use Rattle.definitions.specs.Limits.{maxColumns, maxUnionRows};
-ghost use Rattle.minimum.specs.Marks.{slots, slotOf, MarkedRow, Marked, Candidates, NextOf};
-
-// The mark word for a cell of column c.
-fn slot(c: usize, cell: u32) -> usize
-    requires { ⌜ c < maxColumns ⌝ }
-    ensures { λ r. ⌜ (r ≡ slotOf c cell) × (r < slots) ⌝ }
-{
-    c * 16 + (cell % 16) as usize
-}
-
-// Marks the cells of row j.
-fn mark_row(row: &[u32], j: usize, marks: &mut [u64])
-    requires { ⌜ (length (now row) ≤ maxColumns) × (j < maxUnionRows) × (slots ≤ length (now marks)) ⌝ }
-    ensures { λ r. ⌜ MarkedRow (now (row .entry)) j (now (marks .entry)) (now (marks .exit)) ⌝ }
-{
-    let mut c = 0;
-    while c < row.len() {
-        let s = slot(c, row[c]);
-        marks[s] = marks[s] | (1u64 << j);
-        c += 1;
-    }
-}
+ghost use Rattle.patterns.specs.Marks.{slots};
+ghost use Rattle.minimum.specs.Marks.{Marked, Candidates, NextOf};
+use patterns::mark_row;
+use patterns::slot;
 
 // Marks the cells of the first n rows.
 pub(crate) fn mark_rows(cells: &[u32], n: usize, width: usize, marks: &mut [u64])

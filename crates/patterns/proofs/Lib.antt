@@ -1,5 +1,5 @@
--- Laws of filled patterns and their ones, and of tables that are tested entry by entry.
+-- Laws of filled patterns and their ones, of marks, and of tables that are tested entry by entry.
 pub mod Table
 pub mod Bytes
 pub mod Patterns
-pub mod Columns
+pub mod Marking

@@ -1,13 +1,13 @@
--- Laws of filled cells and patterns: a pattern's bound, its next bit, that its ones are the filled cells, and the walks that count and write. Assumes
--- nothing.
+-- Laws of filled cells and patterns: a pattern's bound, its next bit, that its ones are the filled cells, and the walks that count and that go
+-- over rows. Assumes nothing.
 use mathlib.Core.Path.{_≡_, refl, sym, _∙_, ap, ap₂}
 use mathlib.Core.Bool.{Bool, true, false, cond}
-use mathlib.Core.List.{List, [], _∷_, _++_, map, flatten}
+use mathlib.Core.List.{List, [], _∷_, flatten}
 use Prim.Native.Nat.{ℕ, suc, _+_, _-_, _*_, _/_, _%_, _^_, _<_, _≤_}
-use native.Mathlib.Nat.{pow-suc, lt-of-lt-of-le, zero-add, add-mul, one-mul}
+use native.Mathlib.Nat.{pow-suc, lt-of-lt-of-le, add-mul, one-mul}
 use native.Mathlib.Omega.{arith}
-use lib.ListN.{length, getD, take, drop, set, length-drop, length-map, drop-of-length-le, List·getD-map}
-use lib.Seq.{drop-cons, take-all, length-take-le, getD-take}
+use lib.ListN.{length, getD, take, drop, length-drop, drop-of-length-le}
+use lib.Seq.{drop-cons, length-take-le, getD-take}
 use lib.Bits.{bitOr, or-shifted}
 use lib.Pow.{pow-mono}
 use lib.Count.{ones, ones-step}
@@ -16,9 +16,8 @@ use Rattle.definitions.specs.Word.{isFilled}
 use Rattle.definitions.specs.Image.{rowsIn}
 use Rattle.definitions.specs.MinimumUnion.{filled}
 use Rattle.definitions.specs.SetList.{bits}
-use Rattle.lists.proofs.Flat.{rows-length, rows-at, row-fits, part-row, words-rows}
+use Rattle.lists.proofs.Flat.{row-fits, words-rows}
 use Rattle.lists.proofs.Walks.{next}
-use Rattle.lists.proofs.Pastes.{Pasted, paste-turn}
 use Rattle.patterns.specs.Pattern.{patternOf}
 
 -- 1 for a filled cell, 0 for the empty cell
@@ -89,19 +88,3 @@ module _ (c n i at : ℕ) (w : List ℕ) (more : i < n) (here : at ≡ i * c) wh
 
   pub next-row : at + c ≡ (i + 1) * c
   next-row = omega (arith, add-mul i 1 c, one-mul c)
-
-  row-here : take (at + c - at) (drop at w) ≡ take c (drop (i * c) w)
-  row-here = part-row c at w ∙ ap (λ (k : ℕ). take c (drop k w)) here
-
-  pub patterns-turn : (found cur : List ℕ) (p : ℕ) → n ≤ length found → Pasted found 0 (map patternOf (rowsIn c n w)) i cur
-      → p ≡ patternOf (take (at + c - at) (drop at w)) → Pasted found 0 (map patternOf (rowsIn c n w)) (i + 1) (set cur i p)
-  unfolding patternOf bits
-  patterns-turn found cur p room inv e =
-      let l : length (map patternOf (rowsIn c n w)) ≡ n = length-map (rowsIn c n w) patternOf ∙ rows-length c n w in
-      paste-turn found 0 (map patternOf (rowsIn c n w)) i i cur 0 p inv (sym (zero-add i)) (omega arith) (omega arith)
-      (e ∙ ap patternOf (row-here ∙ sym (rows-at c n i w more)) ∙ sym (List·getD-map patternOf (rowsIn c n w) i []))
-
-pub patterns-end : (c n : ℕ) (w found cur : List ℕ) → Pasted found 0 (map patternOf (rowsIn c n w)) n cur → cur ≡ map patternOf (rowsIn c n w) ++ drop n found
-patterns-end c n w found cur p =
-    let l : length (map patternOf (rowsIn c n w)) ≡ n = length-map (rowsIn c n w) patternOf ∙ rows-length c n w in
-    p .words ∙ rw (zero-add, take-all n (map patternOf (rowsIn c n w)) (omega arith))

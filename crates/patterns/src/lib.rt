@@ -1,17 +1,20 @@
-// The filled patterns of rows, the ones of a pattern, and the count of filled cells.
+// The filled pattern of a row, the ones of a pattern, the count of filled cells, and the marks of the cells of rows.
 ghost use mathlib.Core.Path.{_≡_};
 ghost use mathlib.Core.Bool.{cond};
-ghost use mathlib.Core.List.{_++_, flatten, map};
+ghost use mathlib.Core.List.{flatten};
 ghost use Prim.Native.Nat.{_*_, _≤_, _<_, _^_};
-ghost use lib.ListN.{length, drop};
+ghost use lib.ListN.{length};
 ghost use Rattle.definitions.specs.Limits.{maxColumns};
 ghost use Rattle.definitions.specs.Word.{isFilled};
 ghost use Rattle.definitions.specs.Image.{rowsIn};
 ghost use Rattle.definitions.specs.MinimumUnion.{filled};
 ghost use Rattle.patterns.specs.Pattern.{patternOf};
 
+mod marks;
 mod ones;
 
+pub use marks::mark_row;
+pub use marks::slot;
 pub use ones::count_ones;
 
 // 1 for a filled cell, 0 for the empty cell.
@@ -56,19 +59,4 @@ pub fn count_rows(cells: &[u32], n: usize, width: usize) -> usize
         i += 1;
     }
     total
-}
-
-// Writes the filled patterns of the first n rows of width cells over the first n words of `patterns`.
-pub fn row_patterns(cells: &[u32], n: usize, width: usize, patterns: &mut [u32])
-    requires { ⌜ (width ≤ maxColumns) × (n * width ≤ length (now cells)) × (n ≤ length (now patterns)) ⌝ }
-    ensures { λ r. ⌜ now (patterns .exit) ≡ map patternOf (rowsIn width n (now (cells .entry))) ++ drop n (now (patterns .entry)) ⌝ }
-{
-    let mut i = 0;
-    let mut at = 0;
-    while i < n {
-        let next = at + width;
-        patterns[i] = pattern(&cells[at..next]);
-        at = next;
-        i += 1;
-    }
 }

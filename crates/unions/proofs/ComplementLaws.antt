@@ -6,7 +6,6 @@ use native.Mathlib.Nat.{mul-le-mul}
 use native.Mathlib.Omega.{arith}
 use lib.Dec.{leb}
 use lib.ListN.{length, take, drop}
-use lib.Seq.{take-at}
 use Rattle.definitions.specs.Limits.{maxColumns, maxUnionRows, maxSets, setWidth}
 use Rattle.definitions.specs.Image.{imageOf, rowsIn}
 use Rattle.definitions.specs.OuterUnion.{unionIds, unionRows}
@@ -33,9 +32,6 @@ use Rattle.unions.proofs.Pairs.{pair-accepted, asked-no, asked-yes}
 use Rattle.unions.proofs.Numbered.{result-count, result-words, result-written, result-filled}
 
 -- ---- the sets of T
-
-pub front-of : {A : Type 0} (n : ℕ) (p l r : List A) → length l ≡ n → p ≡ l ++ r → take n p ≡ l
-front-of n p l r e f = ap (take n) f ∙ take-at l r n e
 
 pub graph-for : (c n : ℕ) (cells neighbours : List ℕ) → GraphOf (rowsIn c n cells) neighbours → Graph neighbours n
 graph-for c n cells neighbours g = subst (Graph neighbours) (rows-length c n cells) (g .graph)

@@ -23,10 +23,8 @@ pub fn list_sets(cells: &[u32], n: usize, width: usize, list: &mut [u64]) -> usi
     requires { ⌜ (n ≤ maxUnionRows) × (width ≤ maxColumns) × (n * width ≤ length (now cells)) × (suc maxSets ≤ length (now list)) ⌝ }
     ensures { λ r. ⌜ SetsOf (rowsIn width n (now (cells .entry))) (now (list .exit)) r ⌝ }
 {
-    let mut filled = [0u32; 64];
-    patterns::row_patterns(cells, n, width, &mut filled);
     let mut neighbours = [0u64; 64];
-    fusing::fill_neighbours(cells, &filled, n, width, &mut neighbours);
+    fusing::fill_neighbours(cells, n, width, &mut neighbours);
     cliques::find_sets(&neighbours, n, list)
 }
 

@@ -1,6 +1,8 @@
 -- `find_sets` lists all maximal sets: the search from the empty set, with every row undecided, finds them.
 use native.Mathlib.Omega.{arith}
 use borrow.Author.Needs.{needs}
+use Rattle.cliques.specs.Search.{rowOf}
+use Rattle.cliques.proofs.Ready.{graph-first, mutual-none, around-none}
 use Rattle.cliques.proofs.Complete.{none-found, all-found}
 use Rattle.cliques.proofs.find_sets.Statement.{statement}
 use Rattle.cliques.proofs.find_sets.Tie as tie
@@ -11,7 +13,16 @@ returns c =
     none-found (s .neighbours .now) (s .n) (s .list .now) (c .if1 .taken)
 
 search-requires : tie.Need-search-requires
-search-requires c κs = search needs
+search-requires c κs =
+    let q = c .before .before .before .before in record {
+      graph = graph-first (q .pre .0) _ (omega arith);
+      bits = search needs;
+      rows = mutual-none (rowOf (q .args .neighbours .now));
+      reach = around-none (rowOf (q .args .neighbours .now)) 0;
+      room = search needs;
+      few = search needs;
+      order = search needs;
+    }
 
 same-length : tie.Need-same-length
 same-length c = search needs
@@ -21,8 +32,8 @@ returns-2 c =
     let k = c .before .before in
     let q = k .before .before .before .before .before in
     let s = q .args in
-    all-found (s .neighbours .now) (s .n) (q .pre .0) (k .search .last .1 .1 .1 .1 .0) (k .search .result) (k .before .before .if1 .left)
-    (omega (arith, q .pre .2, k .search .kept .1 .1 .1 .1 .0, k .search .ensures .0)) (k .search .ensures .1)
+    all-found (s .neighbours .now) (s .n) (q .pre .0) (k .search .last .1 .1 .1 .1 .1 .0) (k .search .result) (k .before .before .if1 .left)
+    (omega (arith, q .pre .2, k .search .kept .1 .1 .1 .1 .1 .0, k .search .ensures .0)) (k .search .ensures .1)
 
 pub find-sets-spec : {M : Type 1} → statement M
 find-sets-spec = tie.close (tie.spec returns search-requires same-length returns-2)

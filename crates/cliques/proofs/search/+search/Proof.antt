@@ -4,6 +4,7 @@ use mathlib.Core.Path.{_≡_, refl, sym, ap, ap₂, _∙_, subst}
 use mathlib.Core.List.{List}
 use Prim.Native.Nat.{ℕ, suc, _+_, _-_, _≤_, _<_}
 use native.Mathlib.Omega.{arith}
+use lib.Bits.{bitOr}
 use lib.ListN.{length, take}
 use borrow.Author.Needs.{needs}
 use borrow.Fn.Kinds.{In}
@@ -13,13 +14,15 @@ use Rattle.definitions.specs.Statements.{Rising}
 use Rattle.cliques.specs.Bits.{compareBits}
 use Rattle.cliques.specs.Search.{Ready, rowOf, searchSets}
 use Rattle.cliques.proofs.Run.{search-rises}
-use Rattle.cliques.proofs.Steps.{ready-past, ready-next, search-stops, search-passes, search-lists, search-joins, search-leaves, search-takes}
+use Rattle.cliques.proofs.Ready.{graph-first, mutual-past, mutual-joined, mutual-taken, around-joined, far-apart, ready-past, ready-next}
+use Rattle.cliques.proofs.Steps.{search-stops, search-passes, search-lists, search-joins, search-leaves, search-takes}
 use Rattle.cliques.proofs.search.search.Reads as search′
 use Rattle.cliques.proofs.search.search.Kinds as search-kinds
 use Rattle.cliques.proofs.search.+search.Lts-search as lts
 use Rattle.cliques.proofs.listing.insert.Reads as insert-reads
 use Rattle.cliques.proofs.search.far_rows.Reads as far-rows-reads
 use Rattle.cliques.proofs.search.may_take.Reads as may-take-reads
+use Rattle.cliques.proofs.search.rows_around.Reads as rows-around-reads
 use Rattle.cliques.proofs.search.take_row.Reads as take-row-reads
 use Rattle.cliques.proofs.sets.is_sub.Reads as is-sub-reads
 use Rattle.cliques.proofs.sets.with_row.Reads as with-row-reads
@@ -51,6 +54,8 @@ claims t = (
   may-take-reads.Learnt,
   take-row-reads.Asked,
   take-row-reads.Learnt,
+  rows-around-reads.Asked,
+  rows-around-reads.Learnt,
 )
 
 module _ (t : ℕ) where
@@ -80,6 +85,9 @@ module _ (t : ℕ) where
     abbrev set : ℕ
     set = c .before .before .before .before .args .set
 
+    abbrev around : ℕ
+    around = c .before .before .before .before .args .around
+
     abbrev N : ℕ → ℕ
     N = rowOf (c .before .before .before .before .args .neighbours .now)
 
@@ -89,7 +97,7 @@ module _ (t : ℕ) where
     abbrev left : ℕ
     left = c .before .before .before .before .args .undecided - c .far-rows .result
 
-    ready : Ready maxUnionRows (suc maxSets) (c .before .before .before .before .args .neighbours .now) row left words count
+    ready : Ready maxUnionRows (suc maxSets) (c .before .before .before .before .args .neighbours .now) row left set around words count
     ready = ready-past (c .before .before .before .before .pre .1) (c .far-rows .result) (c .far-rows .ensures .0)
 
     fits : count ≤ length words
@@ -102,7 +110,8 @@ module _ (t : ℕ) where
         ≡ searchSets N (suc maxSets) (c .before .before .before .before .args .undecided) (c .before .before .before .before .args .i) set (take count words)
     passes =
         search-passes N (suc maxSets) (c .before .before .before .before .args .i) set count words fits (c .before .before .before .before .args .undecided)
-        (c .far-rows .result) few (c .far-rows .ensures .0) (c .far-rows .ensures .1)
+        around (c .far-rows .result) few (c .far-rows .ensures .0) (c .far-rows .ensures .1)
+        (λ k h. far-apart (c .before .before .before .before .pre .1) k (omega (arith, c .far-rows .ensures .0)) (c .far-rows .ensures .1 k h))
 
     less : (left ≡ 0 → ⊥) → left - 1 < t
     less some = omega (arith, c .before .before .before .before .pre .0)
@@ -135,6 +144,12 @@ module _ (t : ℕ) where
   with-row-requires : lts.Need-with-row-requires (claims t) (at t) search′.Post
   with-row-requires c κs = search needs
 
+  mul-wider : lts.Need-mul-wider (claims t) (at t) search′.Post
+  mul-wider c = search needs
+
+  shared-slice-read-wider : lts.Need-shared-slice-read-wider (claims t) (at t) search′.Post
+  shared-slice-read-wider c = search needs
+
   add-search : lts.Need-add-search (claims t) (at t) search′.Post
   add-search c = search needs
 
@@ -143,9 +158,13 @@ module _ (t : ℕ) where
 
   search-requires : lts.Need-search-requires (claims t) (at t) search′.Post
   search-requires c κs =
-      let p = c .before .before .before .before .before .before in
-      let some = c .before .before .before .before .before .if2 .left in
-      (less p some, ready-next (ready p) some (words p) (count p) refl (ready p .few) (ready p .order))
+      let w = c .before .before in
+      let u = w .before .before in
+      let p = u .before .before .before in
+      let some = u .before .before .if2 .left in
+      let rows = mutual-joined (ready p) some (w .with-row .result) (w .with-row .ensures) (sym (u .is-sub .ensures) ∙ w .before .if3 .taken) in
+      let reach = around-joined (N p) (set p) (row p) (around p) (w .with-row .result) (ready p .reach) (w .with-row .ensures) in
+      (less p some, ready-next (ready p) some (w .with-row .result) (bitOr (around p) (N p (row p))) rows reach (words p) (count p) refl (ready p .few) (ready p .order))
 
   same-length-2 : lts.Need-same-length-2 (claims t) (at t) search′.Post
   same-length-2 c = search needs
@@ -153,7 +172,7 @@ module _ (t : ℕ) where
   returns-3 : lts.Need-returns-3 (claims t) (at t) search′.Post
   returns-3 c =
       let k = c .before .before in
-      let w = k .before .before in
+      let w = k .before .before .before in
       let u = w .before .before in
       let p = u .before .before .before in (
         k .search .ensures .0,
@@ -174,13 +193,24 @@ module _ (t : ℕ) where
   search-requires-2 c κs =
       let p = c .before .before .before .before .before in
       let some = c .before .before .before .before .if2 .left in
-      (less p some, ready-next (ready p) some (words p) (count p) refl (ready p .few) (ready p .order))
+      let rows = mutual-past (ready p .rows) (row p + 1) (omega arith) in
+      (less p some, ready-next (ready p) some (set p) (around p) rows (ready p .reach) (words p) (count p) refl (ready p .few) (ready p .order))
 
   may-take-requires : lts.Need-may-take-requires (claims t) (at t) search′.Post
-  may-take-requires c κs = search needs
+  may-take-requires c κs =
+      let p = c .before .before .before .before .before .before .before .before in
+      let some = c .before .before .before .before .before .before .before .if2 .left in
+      (graph-first (ready p .graph) (row p + 1) (omega arith), omega (arith, ready p .bits), ready p .rows)
 
   take-row-requires : lts.Need-take-row-requires (claims t) (at t) search′.Post
   take-row-requires c κs = search needs
+
+  rows-around-requires : lts.Need-rows-around-requires (claims t) (at t) search′.Post
+  rows-around-requires c κs =
+      let u = c .before .before .before .before .before .before .before .before in
+      let p = u .before .before .before in
+      let rows = mutual-taken (ready p) (u .before .before .if2 .left) (c .take-row .result) (c .take-row .ensures) in
+      λ k h. let l = rows .inside k h in omega (arith, ready p .graph .rows, u .before .before .if2 .left)
 
   add-search-3 : lts.Need-add-search-3 (claims t) (at t) search′.Post
   add-search-3 c = search needs
@@ -190,12 +220,15 @@ module _ (t : ℕ) where
 
   search-requires-3 : lts.Need-search-requires-3 (claims t) (at t) search′.Post
   search-requires-3 c κs =
-      let k = c .before .before .before .before .before .before in
+      let w = c .before .before in
+      let k = w .before .before .before .before .before in
       let u = k .before .before .before in
       let p = u .before .before .before in
-      let some = u .before .before .if2 .left in (
+      let some = u .before .before .if2 .left in
+      let rows = mutual-taken (ready p) some (w .take-row .result) (w .take-row .ensures) in (
         less p some,
-        ready-next (ready p) some (k .search2 .last .1 .1 .1 .1 .0) (k .search2 .result) (k .search2 .kept .1 .1 .1 .1 .0) (k .search2 .ensures .0)
+        ready-next (ready p) some (w .take-row .result) (c .before .rows-around .result) rows (c .before .rows-around .ensures)
+            (k .search2 .last .1 .1 .1 .1 .1 .0) (k .search2 .result) (k .search2 .kept .1 .1 .1 .1 .1 .0) (k .search2 .ensures .0)
             (subst (Rising compareBits) (sym (k .search2 .ensures .1))
             (search-rises (N p) (suc maxSets) (left p - 1) (row p + 1) (set p) (take (count p) (words p)) (ready p .order))),
       )
@@ -206,7 +239,7 @@ module _ (t : ℕ) where
   returns-4 : lts.Need-returns-4 (claims t) (at t) search′.Post
   returns-4 c =
       let k = c .before .before in
-      let w = k .before .before in
+      let w = k .before .before .before in
       let m = w .before .before in
       let f = m .before .before .before in
       let u = f .before .before .before in
@@ -250,6 +283,8 @@ pub +search-spec : {M : Type 1} → statement M
     (shared-slice-read-is-sub t)
     (is-sub-requires t)
     (with-row-requires t)
+    (mul-wider t)
+    (shared-slice-read-wider t)
     (add-search t)
     (sub-search t)
     (search-requires t)
@@ -260,6 +295,7 @@ pub +search-spec : {M : Type 1} → statement M
     (search-requires-2 t)
     (may-take-requires t)
     (take-row-requires t)
+    (rows-around-requires t)
     (add-search-3 t)
     (sub-search-3 t)
     (search-requires-3 t)

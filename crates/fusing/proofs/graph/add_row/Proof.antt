@@ -1,75 +1,90 @@
--- `add_row` meets its contract. The loop's invariant: the words of the first k rows are those with row j, and `word` holds the first k
--- rows that complement row j.
+-- `add_row` meets its contract. The loop's invariant: the candidates that are not in `rest` are compared.
 use borrow.Author.Needs.{needs}
-use mathlib.Core.Path.{_≡_, sym, _∙_, ap}
+use mathlib.Core.Path.{_≡_, _∙_, ap}
 use mathlib.Core.Bool.{Bool, cond}
-use Prim.Native.Nat.{_-_, _≤_}
+use Prim.Native.Nat.{_-_, _^_, _<_}
 use native.Mathlib.Omega.{arith}
+use lib.Bits.{and-le-r}
+use lib.Count.{trailingZeros, trailing-le}
 use lib.ListN.{length-set}
-use Rattle.definitions.specs.Image.{rowsIn}
-use Rattle.definitions.specs.ComplementUnion.{complement}
-use Rattle.lists.proofs.Pastes.{Pasted, paste-none}
+use Rattle.definitions.specs.ComplementUnion.{agree}
 use Rattle.rows.specs.Numbers.{rowAt}
-use Rattle.fusing.specs.Graph.{nearTo}
-use Rattle.fusing.proofs.Neighbours.{near-none, grown, word-turn, grown-turn, grown-end}
+use Rattle.cliques.proofs.Bits.{Lowest, trailing-lowest}
+use Rattle.fusing.proofs.Neighbours.{Adding, adding-none, lowest-below, adding-turn, adding-end}
 use Rattle.fusing.proofs.graph.add_row.Statement.{statement}
 use Rattle.fusing.proofs.graph.add_row.Tie as tie
 
 abbrev Inv-loop : tie.InvT-loop
-Inv-loop cells patterns width j neighbours₀ word₀ k₀ neighbours word k =
-    (k ≤ j) × Pasted neighbours₀ 0 (grown width j cells) k neighbours × (word ≡ nearTo (rowsIn width k cells) (rowAt width cells j))
+Inv-loop cells width j set neighbours₀ rest₀ word₀ neighbours rest word = (rest < 2 ^ 64) × Adding width j cells neighbours₀ set rest word neighbours
 
 abbrev μ-loop : tie.MeasureT-loop
-μ-loop cells patterns width j neighbours₀ word₀ k₀ neighbours word k = j - k
+μ-loop cells width j set neighbours₀ rest₀ word₀ neighbours rest word = rest
+
+-- the row that is compared is the lowest of the rest, and stands before row j
+lowest-of : (c : tie.In-loop Inv-loop μ-loop) → Lowest (c .before .loop .rest) (trailingZeros 64 (c .before .loop .rest))
+lowest-of c = let l = c .before .loop in trailing-lowest 64 (l .rest) (c .loop-test .taken) (l .inv .0)
+
+below : (c : tie.In-loop Inv-loop μ-loop) → trailingZeros 64 (c .before .loop .rest) < c .before .before .before .before .args .j
+below c =
+    let s = c .before .before .before .before in
+    let a = s .args in
+    let l = c .before .loop in
+    lowest-below (a .width) (a .j) (a .cells .now) (a .neighbours .now) (s .pre .0) (s .pre .3) (s .pre .4) (a .set) (s .pre .2) (l .rest) (l .word) (l .neighbours) (l .inv .1)
+    (trailingZeros 64 (l .rest)) (lowest-of c)
 
 loop-holds : tie.Need-loop-holds Inv-loop μ-loop
 loop-holds c =
-    let s = c .before .before .before in
+    let s = c .before .before in
     let a = s .args in
-    (search needs, paste-none (a .neighbours .now) 0 (grown (a .width) (a .j) (a .cells .now)), sym (near-none (rowAt (a .width) (a .cells .now) (a .j))))
+    (search needs, adding-none (a .width) (a .j) (a .cells .now) (a .neighbours .now) (s .pre .0) (s .pre .3) (s .pre .4) (a .set) (s .pre .2))
 
-complement-at-requires : tie.Need-complement-at-requires Inv-loop μ-loop
-complement-at-requires c κs = search needs
+cast-k : tie.Need-cast-k Inv-loop μ-loop
+cast-k c = omega (arith, trailing-le 64 (c .before .loop .rest))
+
+agree-at-requires : tie.Need-agree-at-requires Inv-loop μ-loop
+agree-at-requires c κs =
+    let s = c .before .before .before .before in
+    let h = below c in
+    (search needs, s .pre .1)
 
 mark-requires : tie.Need-mark-requires Inv-loop μ-loop
 mark-requires c κs = search needs
 
 mul-neighbours : tie.Need-mul-neighbours Inv-loop μ-loop
-mul-neighbours c = omega (arith, c .before .before .before .loop .inv .1 .size)
+mul-neighbours c = let h = below (c .before .before) in let e = c .before .before .before .loop .inv .1 .size in omega arith
 
 slice-read-neighbours : tie.Need-slice-read-neighbours Inv-loop μ-loop
-slice-read-neighbours c = omega (arith, c .before .before .before .before .loop .inv .1 .size)
+slice-read-neighbours c = let h = below (c .before .before .before) in let e = c .before .before .before .before .loop .inv .1 .size in omega arith
 
 shl-neighbours : tie.Need-shl-neighbours Inv-loop μ-loop
 shl-neighbours c = search needs
 
 mul-neighbours-2 : tie.Need-mul-neighbours-2 Inv-loop μ-loop
-mul-neighbours-2 c = omega (arith, c .before .before .before .before .loop .inv .1 .size)
+mul-neighbours-2 c = let h = below (c .before .before .before) in let e = c .before .before .before .before .loop .inv .1 .size in omega arith
 
 slice-write-neighbours : tie.Need-slice-write-neighbours Inv-loop μ-loop
-slice-write-neighbours c = omega (arith, c .before .before .before .before .loop .inv .1 .size)
+slice-write-neighbours c = let h = below (c .before .before .before) in let e = c .before .before .before .before .loop .inv .1 .size in omega arith
 
 shl-word : tie.Need-shl-word Inv-loop μ-loop
-shl-word c = search needs
+shl-word c = let h = below (c .before .before .before) in search needs
 
-add-k : tie.Need-add-k Inv-loop μ-loop
-add-k c = search needs
+sub-rest : tie.Need-sub-rest Inv-loop μ-loop
+sub-rest c = search needs
 
 loop-less : tie.Need-loop-less Inv-loop μ-loop
-loop-less c = search needs
+loop-less c = omega (arith, and-le-r (c .before .before .before .before .loop .rest) (c .before .before .before .before .loop .rest - 1))
 
 loop-again : tie.Need-loop-again Inv-loop μ-loop
 loop-again c =
-    let s = c .before .before .before .before .before .before .before .before in
+    let s = c .before .before .before .before .before .before .before in
     let a = s .args in
     let l = c .before .before .before .before .loop in
-    let m = c .before .mark in
-    let held : m .result ≡ cond (complement (rowAt (a .width) (a .cells .now) (a .j)) (rowAt (a .width) (a .cells .now) (l .k))) 1 0 =
-    m .ensures
-    ∙ ap (λ (b : Bool). cond b 1 0) {y = complement (rowAt (a .width) (a .cells .now) (a .j)) (rowAt (a .width) (a .cells .now) (l .k))} (c .before .before .complement-at .ensures) in (
-      search needs,
-      grown-turn (a .width) (a .j) (a .cells .now) (a .neighbours .now) (s .pre .0) (s .pre .3) (s .pre .4) (l .k) (m .result) (search needs) held (l .neighbours) (l .inv .1),
-      word-turn (a .width) (a .j) (a .cells .now) (a .neighbours .now) (s .pre .0) (s .pre .3) (s .pre .4) (l .k) (m .result) (search needs) held (l .word) (l .inv .2),
+    let held : c .before .mark .result ≡ cond (agree (rowAt (a .width) (a .cells .now) (a .j)) (rowAt (a .width) (a .cells .now) (trailingZeros 64 (l .rest)))) 1 0 =
+    c .before .mark .ensures
+    ∙ ap (λ (b : Bool). cond b 1 0) {y = agree (rowAt (a .width) (a .cells .now) (a .j)) (rowAt (a .width) (a .cells .now) (trailingZeros 64 (l .rest)))} (c .before .before .agree-at .ensures) in (
+      omega (arith, and-le-r (l .rest) (l .rest - 1), l .inv .0),
+      adding-turn (a .width) (a .j) (a .cells .now) (a .neighbours .now) (s .pre .0) (s .pre .3) (s .pre .4) (a .set) (s .pre .2) (l .rest) (l .word) (l .neighbours) (l .inv .1)
+          (trailingZeros 64 (l .rest)) (lowest-of (c .before .before .before)) (c .before .mark .result) held,
     )
 
 mul-neighbours-3 : tie.Need-mul-neighbours-3 Inv-loop μ-loop
@@ -79,14 +94,14 @@ slice-write-neighbours-2 : tie.Need-slice-write-neighbours-2 Inv-loop μ-loop
 slice-write-neighbours-2 c = omega (arith, c .before .loop .inv .1 .size)
 
 same-length : tie.Need-same-length Inv-loop μ-loop
-same-length c = let l = c .before .loop in length-set (l .neighbours) (c .before .before .before .before .before .args .j) (l .word) ∙ l .inv .1 .size
+same-length c = let l = c .before .loop in length-set (l .neighbours) (c .before .before .before .before .args .j) (l .word) ∙ l .inv .1 .size
 
 returns : tie.Need-returns Inv-loop μ-loop
 returns c =
-    let s = c .before .before .before .before .before in
+    let s = c .before .before .before .before in
     let a = s .args in
     let l = c .before .loop in
-    grown-end (a .width) (a .j) (a .cells .now) (a .neighbours .now) (s .pre .0) (s .pre .3) (s .pre .4) (l .neighbours) (l .k) (l .word) (search needs) (search needs) (l .inv .1) (l .inv .2)
+    adding-end (a .width) (a .j) (a .cells .now) (a .neighbours .now) (s .pre .0) (s .pre .3) (s .pre .4) (a .set) (s .pre .2) (l .rest) (l .word) (l .neighbours) (c .loop-test .left) (l .inv .1)
 
 pub add-row-spec : {M : Type 1} → statement M
 add-row-spec =
@@ -95,7 +110,8 @@ add-row-spec =
     Inv-loop
     μ-loop
     loop-holds
-    complement-at-requires
+    cast-k
+    agree-at-requires
     mark-requires
     mul-neighbours
     slice-read-neighbours
@@ -103,7 +119,7 @@ add-row-spec =
     mul-neighbours-2
     slice-write-neighbours
     shl-word
-    add-k
+    sub-rest
     loop-less
     loop-again
     mul-neighbours-3

@@ -2,9 +2,9 @@
 use borrow.Author.Needs.{needs}
 use Prim.Native.Nat.{_-_, _≤_}
 use lib.ListN.{length}
-use Rattle.minimum.proofs.Marking.{RowTo, row-none, row-turn, row-done}
-use Rattle.minimum.proofs.candidates.mark_row.Statement.{statement}
-use Rattle.minimum.proofs.candidates.mark_row.Tie as tie
+use Rattle.patterns.proofs.Marking.{RowTo, row-none, row-turn, row-done}
+use Rattle.patterns.proofs.marks.mark_row.Statement.{statement}
+use Rattle.patterns.proofs.marks.mark_row.Tie as tie
 
 abbrev Inv-loop : tie.InvT-loop
 Inv-loop row j marks₀ c₀ marks c = (c ≤ length row) × RowTo row j marks₀ c marks

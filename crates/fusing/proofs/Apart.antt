@@ -1,0 +1,57 @@
+-- Complementing rows told by which columns are filled: some in both, some in each alone. A missing cell counts as empty. Assumes nothing.
+use mathlib.Core.Path.{_≡_, refl, sym, _∙_, ap}
+use mathlib.Core.Bool.{Bool, true, false, not, _&&_, _||_}
+use mathlib.Core.List.{List, [], _∷_}
+use Prim.Native.Nat.{ℕ}
+use lib.ListN.{length}
+use lib.Dec.{eqb}
+use borrow.Author.Tests.{eqb-true}
+use Rattle.definitions.specs.Word.{isFilled}
+use Rattle.definitions.specs.ComplementUnion.{agree, share, complement}
+use Rattle.definitions.proofs.Bools.{bool-cases, clash, and-l, and-r}
+use Rattle.definitions.proofs.Patterns.{only, complement-pattern}
+
+-- some column is filled in both rows
+unfoldable pub bothIn : List ℕ → List ℕ → Bool
+bothIn [] t = false
+bothIn (x ∷ s) [] = false
+bothIn (x ∷ s) (y ∷ t) = (isFilled x && isFilled y) || bothIn s t
+
+-- a shared number is a column filled in both; where the rows agree, a column filled in both is a shared number
+cell-share : (x y : ℕ) (b h : Bool) → (eqb x y || not (isFilled x) || not (isFilled y)) ≡ true → b ≡ h
+    → ((isFilled x && isFilled y) || b) ≡ ((isFilled x && eqb x y) || h)
+cell-share x y b h agrees e =
+    bool-cases (eqb x y)
+    (λ q. let same : x ≡ y = eqb-true x y q in rw (q, ← same, e) (both (isFilled x) h))
+    (λ q. rw (q, e) (neither (isFilled x) (isFilled y) h (sym (rw q) ∙ agrees)))
+  where
+    both : (f h : Bool) → ((f && f) || h) ≡ ((f && true) || h)
+    both true h = refl
+    both false h = refl
+
+    neither : (f g h : Bool) → (not f || not g) ≡ true → ((f && g) || h) ≡ ((f && false) || h)
+    neither true true h k = absurd (clash k refl)
+    neither true false h k = refl
+    neither false g h k = refl
+
+both-share : (s t : List ℕ) → agree s t ≡ true → bothIn s t ≡ share s t
+unfolding bothIn agree share
+both-share [] t e = refl
+both-share (x ∷ s) [] e = refl
+both-share (x ∷ s) (y ∷ t) e =
+    let a = eqb x y || not (isFilled x) || not (isFilled y) in
+    cell-share x y (bothIn s t) (share s t) (and-l a (agree s t) e) (both-share s t (and-r a (agree s t) e))
+
+share-agree : (s t : List ℕ) → (share s t && agree s t) ≡ (bothIn s t && agree s t)
+share-agree s t =
+    bool-cases (agree s t)
+    (λ e. ap (λ (b : Bool). b && agree s t) (sym (both-share s t e)))
+    (λ e. rw e (none (share s t) ∙ sym (none (bothIn s t))))
+  where
+    none : (b : Bool) → (b && false) ≡ false
+    none true = refl
+    none false = refl
+
+-- equally long rows complement each other exactly if some column is filled in each alone, some in both, and they agree
+pub complement-filled : (s t : List ℕ) → length s ≡ length t → complement s t ≡ (only s t && (only t s && (bothIn s t && agree s t)))
+complement-filled s t l = complement-pattern s t l ∙ ap (λ (b : Bool). only s t && (only t s && b)) (share-agree s t)

@@ -1,0 +1,13 @@
+-- `blank` meets its contract: a return for each case.
+use Rattle.fusing.proofs.Candidates.{blank-empty, blank-filled}
+use Rattle.fusing.proofs.graph.blank.Statement.{statement}
+use Rattle.fusing.proofs.graph.blank.Tie as tie
+
+returns : tie.Need-returns
+returns c = blank-empty (c .before .args .cell) (c .if1 .taken)
+
+returns-2 : tie.Need-returns-2
+returns-2 c = blank-filled (c .before .args .cell) (c .if1 .left)
+
+pub blank-spec : {M : Type 1} → statement M
+blank-spec = tie.close (tie.spec returns returns-2)

@@ -1,0 +1,87 @@
+-- `mark_columns` meets its contract. The loop's invariant: the first c columns hold row j.
+use borrow.Author.Needs.{needs}
+use Prim.Native.Nat.{_-_, _≤_}
+use native.Mathlib.Omega.{arith}
+use lib.ListN.{length}
+use Rattle.fusing.proofs.Columns.{FilledTo, filled-to-none, filled-to-turn, filled-to-end}
+use Rattle.fusing.proofs.graph.mark_columns.Statement.{statement}
+use Rattle.fusing.proofs.graph.mark_columns.Tie as tie
+
+abbrev Inv-loop : tie.InvT-loop
+Inv-loop row j columns₀ c₀ columns c = (c ≤ length row) × FilledTo row j columns₀ c columns
+
+abbrev μ-loop : tie.MeasureT-loop
+μ-loop row j columns₀ c₀ columns c = length row - c
+
+loop-holds : tie.Need-loop-holds Inv-loop μ-loop
+loop-holds c =
+    let a = c .before .before .args in
+    (search needs, filled-to-none (a .row .now) (a .j) (a .columns .now))
+
+mul-columns : tie.Need-mul-columns Inv-loop μ-loop
+mul-columns c = omega (arith, c .before .loop .inv .1 .size)
+
+slice-read-columns : tie.Need-slice-read-columns Inv-loop μ-loop
+slice-read-columns c = omega (arith, c .before .before .loop .inv .1 .size)
+
+mul-mark : tie.Need-mul-mark Inv-loop μ-loop
+mul-mark c = search needs
+
+shared-slice-read-mark : tie.Need-shared-slice-read-mark Inv-loop μ-loop
+shared-slice-read-mark c = search needs
+
+mark-requires : tie.Need-mark-requires Inv-loop μ-loop
+mark-requires c κs = search needs
+
+shl-columns : tie.Need-shl-columns Inv-loop μ-loop
+shl-columns c = search needs
+
+mul-columns-2 : tie.Need-mul-columns-2 Inv-loop μ-loop
+mul-columns-2 c = omega (arith, c .before .before .before .before .loop .inv .1 .size)
+
+slice-write-columns : tie.Need-slice-write-columns Inv-loop μ-loop
+slice-write-columns c = omega (arith, c .before .before .before .before .loop .inv .1 .size)
+
+add-c : tie.Need-add-c Inv-loop μ-loop
+add-c c = search needs
+
+loop-less : tie.Need-loop-less Inv-loop μ-loop
+loop-less c = search needs
+
+loop-again : tie.Need-loop-again Inv-loop μ-loop
+loop-again c =
+    let s = c .before .before .before .before .before .before .before in
+    let a = s .args in
+    let l = c .before .before .before .before .loop in
+    (search needs, filled-to-turn (a .row .now) (a .j) (a .columns .now) (l .c) (l .columns) (c .mark .result) (search needs) (c .mark .ensures) (l .inv .1))
+
+same-length : tie.Need-same-length Inv-loop μ-loop
+same-length c = c .before .loop .inv .1 .size
+
+returns : tie.Need-returns Inv-loop μ-loop
+returns c =
+    let s = c .before .before .before .before in
+    let a = s .args in
+    let l = c .before .loop in
+    filled-to-end (a .row .now) (a .j) (a .columns .now) (l .c) (l .columns) (search needs) (s .pre .1) (l .inv .1)
+
+pub mark-columns-spec : {M : Type 1} → statement M
+mark-columns-spec =
+    tie.close
+    (tie.spec
+    Inv-loop
+    μ-loop
+    loop-holds
+    mul-columns
+    slice-read-columns
+    mul-mark
+    shared-slice-read-mark
+    mark-requires
+    shl-columns
+    mul-columns-2
+    slice-write-columns
+    add-c
+    loop-less
+    loop-again
+    same-length
+    returns)

@@ -1,0 +1,28 @@
+// Marks of the cells of rows. Each cell of row j sets bit j of a mark word, that of its column and last hexadecimal digit. Rows that are
+// equal in a column are marked in the same word of it; few others are.
+ghost use mathlib.Core.Path.{_≡_};
+ghost use Prim.Native.Nat.{_≤_, _<_};
+ghost use lib.ListN.{length};
+ghost use Rattle.definitions.specs.Limits.{maxColumns, maxUnionRows};
+ghost use Rattle.patterns.specs.Marks.{slots, slotOf, MarkedRow};
+
+// The mark word for a cell of column c.
+pub fn slot(c: usize, cell: u32) -> usize
+    requires { ⌜ c < maxColumns ⌝ }
+    ensures { λ r. ⌜ (r ≡ slotOf c cell) × (r < slots) ⌝ }
+{
+    c * 16 + (cell % 16) as usize
+}
+
+// Marks the cells of row j.
+pub fn mark_row(row: &[u32], j: usize, marks: &mut [u64])
+    requires { ⌜ (length (now row) ≤ maxColumns) × (j < maxUnionRows) × (slots ≤ length (now marks)) ⌝ }
+    ensures { λ r. ⌜ MarkedRow (now (row .entry)) j (now (marks .entry)) (now (marks .exit)) ⌝ }
+{
+    let mut c = 0;
+    while c < row.len() {
+        let s = slot(c, row[c]);
+        marks[s] = marks[s] | (1u64 << j);
+        c += 1;
+    }
+}
