@@ -15,7 +15,7 @@ use borrow.Author.Tests.{eqb-true, eqb-false, eq-eqb, ltb-true, ltb-false}
 use Rattle.definitions.specs.ComplementUnion.{marked}
 use Rattle.definitions.specs.SetList.{bits}
 use Rattle.definitions.proofs.SetWords.{bit-marks}
-use Rattle.definitions.proofs.Bools.{bool-cases, bool-eq, clash, and-l, and-r, and-i, or-l, or-r}
+use Rattle.definitions.proofs.Bools.{bool-cases, bool-eq, clash, not-so, and-l, and-r, and-i, or-l, or-r}
 use Rattle.cliques.specs.Bits.{has, both, isSub, withRow, onlyOne, rowsBelow, Inside, lowest, withoutLowest}
 
 -- position k is in the set
@@ -73,7 +73,7 @@ has-both a b k =
     ∙ ap (λ (x : ℕ). eqb x 1) (and-mod (a / 2 ^ k) (b / 2 ^ k) 1)
     ∙ bit-and (a / 2 ^ k % 2) (b / 2 ^ k % 2) (digit a k) (digit b k)
 
-has-or : (a b k : ℕ) → has (bitOr a b) k ≡ (has a k || has b k)
+pub has-or : (a b k : ℕ) → has (bitOr a b) k ≡ (has a k || has b k)
 unfolding has
 has-or a b k =
     ap (λ (x : ℕ). eqb (x % 2) 1) (or-shr a b k)
@@ -119,7 +119,7 @@ has-pow (suc i) zero = has-low (2 ^ suc i) ∙ ap (λ (x : ℕ). eqb x 1) (pow-e
 has-pow (suc i) (suc k) =
     has-suc (2 ^ suc i) k ∙ ap (λ (x : ℕ). has x k) (pow-half i) ∙ has-pow i k ∙ sym (eqb·suc-suc k i)
 
-has-with : (c i k : ℕ) → has (withRow c i) k ≡ (has c k || eqb k i)
+pub has-with : (c i k : ℕ) → has (withRow c i) k ≡ (has c k || eqb k i)
 unfolding withRow
 has-with c i k = has-or c (2 ^ i) k ∙ ap (λ (b : Bool). has c k || b) (has-pow i k)
 
@@ -320,6 +320,10 @@ rest-of set m k l h d =
     both-in set (set - 1) k h
     (bool-cases (ltb k m) (λ t. absurd (clash h (l .below k (ltb-true k m t))))
     (λ t. pred-above set m k l (let above = ltb-false k m t in omega arith) ∙ h))
+
+pub rest-out : (set m : ℕ) → Lowest set m → has (withoutLowest set) m ≡ false
+unfolding withoutLowest both
+rest-out set m l = not-so (has (bitAnd set (set - 1)) m) (λ h. clash (both-r set (set - 1) m h) (pred-at set m l))
 
 pub rest-less : (set : ℕ) → 0 < set → withoutLowest set < set
 unfolding withoutLowest
