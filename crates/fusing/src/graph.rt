@@ -60,8 +60,9 @@ fn blank(cell: u32) -> u64
     if cell == 0 { 18446744073709551615 } else { 0 }
 }
 
-// The earlier rows that may complement a row: some column is filled in both, some in each alone, and where both are filled, the last
-// hexadecimal digits of the cells are equal.
+// The earlier rows that may complement a row, by the columns passed: those whose cells have the last hexadecimal digits of the row's where
+// both are filled (`agreed`), that are filled somewhere where the row is (`shared`), but not everywhere where it is (`above`), nor nowhere
+// else (`within`).
 fn candidates(row: &[u32], marks: &[u64], columns: &[u64]) -> u64
     requires { ⌜ (length (now row) ≤ maxColumns) × (slots ≤ length (now marks)) × (length (now row) ≤ length (now columns)) ⌝ }
     ensures { λ r. ⌜ Candidates (now (row .entry)) (now (marks .entry)) (now (columns .entry)) r ⌝ }
