@@ -57,14 +57,13 @@ pub fn all_cells(w: &[u32]) -> bool
 pub fn has_id(w: &[u32], id: u32) -> bool
     ensures { λ r. ⌜ r ≡ any (eqb id) (map idOf (now (w .entry))) ⌝ }
 {
+    let mut found = false;
     let mut i = 0;
     while i < w.len() {
-        if id == words::id(w[i]) {
-            return true;
-        }
+        found = found | (id == words::id(w[i]));
         i += 1;
     }
-    false
+    found
 }
 
 // Whether no two column words have the same id.

@@ -1,22 +1,19 @@
--- The words passed have other ids, so that the test of the rest is the test of all.
+-- The invariant of the loop: some word has the id if one of the first i has it or one of the rest has.
 use borrow.Author.Needs.{needs}
-use Prim.Native.Nat.{_≤_, _-_}
-use mathlib.Core.Path.{_≡_, refl, sym, _∙_}
+use mathlib.Core.Path.{refl, ap}
+use Prim.Native.Nat.{ℕ, _≤_, _-_}
 use lib.Dec.{eqb}
-use lib.ListN.{length, drop}
-use Rattle.definitions.specs.Lists.{any}
+use lib.ListN.{length}
 use Rattle.definitions.specs.Word.{idOf}
-use mathlib.Core.List.{map}
-use Rattle.lists.proofs.Walks.{any-stop, any-go, any-end}
-use borrow.Author.Tests.{eq-eqb, ne-eqb}
+use Rattle.lists.proofs.Walks.{AnyFrom, any-turn, any-end}
 use Rattle.images.proofs.has_id.Statement.{statement}
 use Rattle.images.proofs.has_id.Tie as tie
 
 abbrev Inv-loop : tie.InvT-loop
-Inv-loop w id i₀ i = (i ≤ length w) × (any (eqb id) (map idOf w) ≡ any (eqb id) (map idOf (drop i w)))
+Inv-loop w id found₀ i₀ found i = (i ≤ length w) × AnyFrom (eqb id) idOf w i found
 
 abbrev μ-loop : tie.MeasureT-loop
-μ-loop w id i₀ i = length w - i
+μ-loop w id found₀ i₀ found i = length w - i
 
 loop-holds : tie.Need-loop-holds Inv-loop μ-loop
 loop-holds c = (search needs, refl)
@@ -30,12 +27,6 @@ shared-slice-read-id c = search needs
 id-requires : tie.Need-id-requires Inv-loop μ-loop
 id-requires c κs = search needs
 
-returns : tie.Need-returns Inv-loop μ-loop
-returns c =
-    let l = c .before .before .before .before .loop in
-    let a = c .before .before .before .before .before .before .args in
-    sym (any-stop (eqb (a .id)) idOf (a .w .now) (l .i) (l .inv .1) (search needs) (eq-eqb _ _ (c .if1 .taken ∙ c .before .id .ensures)))
-
 add-i : tie.Need-add-i Inv-loop μ-loop
 add-i c = search needs
 
@@ -44,25 +35,16 @@ loop-less c = search needs
 
 loop-again : tie.Need-loop-again Inv-loop μ-loop
 loop-again c =
-    let l = c .before .before .before .before .loop in
-    let a = c .before .before .before .before .before .before .args in
-    (search needs, any-go (eqb (a .id)) idOf (a .w .now) (l .i) (l .inv .1) (search needs) (ne-eqb _ _ (λ e. c .if1 .left (e ∙ sym (c .before .id .ensures)))))
+    let a = c .before .before .before .before .before .args in
+    let l = c .before .before .before .loop in
+    (search needs, any-turn (eqb (a .id)) idOf (a .w .now) (l .i) (l .found) (l .inv .1) _ (search needs) (ap (eqb (a .id)) (c .id .ensures)))
 
-returns-2 : tie.Need-returns-2 Inv-loop μ-loop
-returns-2 c = sym (any-end (eqb (c .before .before .before .args .id)) idOf (c .before .before .before .args .w .now) (c .before .loop .i) (c .before .loop .inv .1) (search needs))
+returns : tie.Need-returns Inv-loop μ-loop
+returns c =
+    let a = c .before .before .before .args in
+    let l = c .before .loop in
+    any-end (eqb (a .id)) idOf (a .w .now) (l .i) (l .found) (l .inv .1) (search needs)
 
 pub has-id-spec : {M : Type 1} → statement M
 has-id-spec =
-    tie.close
-    (tie.spec
-    Inv-loop
-    μ-loop
-    loop-holds
-    mul-id
-    shared-slice-read-id
-    id-requires
-    returns
-    add-i
-    loop-less
-    loop-again
-    returns-2)
+    tie.close (tie.spec Inv-loop μ-loop loop-holds mul-id shared-slice-read-id id-requires add-i loop-less loop-again returns)
