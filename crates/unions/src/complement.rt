@@ -104,8 +104,51 @@ pub fn write_fused(
     }
 }
 
-// The lists for joined rows are short where the sets are few: to clear the long ones would take longer than the rest of the call. A call
-// that isn't refused meets demand 3.
+// Lends lists for joined rows: short ones where the sets are few, because to clear the long ones would take longer than the rest of the call.
+pub fn fuse_sets(
+    t: Table,
+    list: &[u64],
+    count: usize,
+    table: &mut [u32],
+    sets: &mut [u32],
+) -> ComplementAnswer
+    requires { ⌜ Holds t (idsOf t) (rowsOf t) × ((k : ℕ) → k < t .columns → getD (t .ids) k 0 < 2 ^ 16) ⌝ }
+    requires { ⌜ SetsOf (rowsOf t) (now list) count × (count ≤ maxSets) × (count ≤ length (now list)) ⌝ }
+    ensures answers { λ r. ⌜ complementSays r ≡ fusedOutcome (idsOf t) (rowsOf t) (length (now (table .entry))) (length (now (sets .entry))) ⌝ }
+    ensures writes { λ r. ⌜ now (table .exit) ≡ afterwards (complementSays r) (imageOf (idsOf t) (fusedRows (rowsOf t))) (now (table .entry)) ⌝ }
+    ensures lists { λ r. ⌜ now (sets .exit) ≡ afterwards (complementSays r) (setList (rowsOf t)) (now (sets .entry)) ⌝ }
+{
+    if count <= 64 {
+        let mut joined = [0u32; 1024];
+        let mut order = [0u32; 64];
+        let mut places = [0u32; 64];
+        return write_fused(
+            t,
+            list,
+            count,
+            &mut joined,
+            &mut order,
+            &mut places,
+            table,
+            sets,
+        );
+    }
+    let mut joined = [0u32; 16384];
+    let mut order = [0u32; 1024];
+    let mut places = [0u32; 1024];
+    write_fused(
+        t,
+        list,
+        count,
+        &mut joined,
+        &mut order,
+        &mut places,
+        table,
+        sets,
+    )
+}
+
+// A call that isn't refused meets demand 3.
 pub fn complement_union(
     a: &[u32],
     b: &[u32],
@@ -134,32 +177,5 @@ pub fn complement_union(
             table: 2,
         };
     }
-    if count <= 64 {
-        let mut joined = [0u32; 1024];
-        let mut order = [0u32; 64];
-        let mut places = [0u32; 64];
-        return write_fused(
-            t,
-            &list,
-            count,
-            &mut joined,
-            &mut order,
-            &mut places,
-            table,
-            sets,
-        );
-    }
-    let mut joined = [0u32; 16384];
-    let mut order = [0u32; 1024];
-    let mut places = [0u32; 1024];
-    write_fused(
-        t,
-        &list,
-        count,
-        &mut joined,
-        &mut order,
-        &mut places,
-        table,
-        sets,
-    )
+    fuse_sets(t, &list, count, table, sets)
 }

@@ -48,27 +48,16 @@ returns-2 c =
     let e = no-sets (c .before .before .before .before .before .before .before .before .before .before .before .before .before .before .args .a .now) (c .before .before .before .before .before .before .before .before .before .before .before .before .before .before .args .b .now) (c .before .before .before .before .before .before .before .before .before .check-pair .result) (c .before .before .before .before .before .before .before .before .before .check-pair .ensures) (c .before .before .before .before .before .before .before .before .if1 .left) (c .before .before .before .before .before .before .before .union-table .result) (c .before .before .before .before .before .before .before .union-table .ensures) (length (s .args .table .now)) (length (s .args .sets .now)) (c .before .before .list-sets .ensures .many (c .if2 .taken)) in
     promised (s .args .a .now) (s .args .b .now) (s .args .table .now) (s .args .sets .now) _ _ _ e refl refl
 
-slice-aggregate-write-fused : tie.Need-slice-aggregate-write-fused
-slice-aggregate-write-fused c = search needs
+slice-aggregate-fuse-sets : tie.Need-slice-aggregate-fuse-sets
+slice-aggregate-fuse-sets c = search needs
 
-slice-aggregate-write-fused-2 : tie.Need-slice-aggregate-write-fused-2
-slice-aggregate-write-fused-2 c = search needs
-
-slice-aggregate-write-fused-3 : tie.Need-slice-aggregate-write-fused-3
-slice-aggregate-write-fused-3 c = search needs
-
-slice-aggregate-write-fused-4 : tie.Need-slice-aggregate-write-fused-4
-slice-aggregate-write-fused-4 c = search needs
-
-write-fused-requires : tie.Need-write-fused-requires
-write-fused-requires c κs =
-    let s = c .before .before .before .before .before .before .before .before .before .before .before .before .before .before .before .before .before .before .before .before .before in
-    let u = c .before .before .before .before .before .before .before .before .before .before .before .before .before .before .union-table in
-    let h = u .ensures in
-    let l = c .before .before .before .before .before .before .before .before .before .list-sets in
-    let few : l .result ≤ maxSets = omega (arith, c .before .before .before .before .before .before .before .if2 .left) in
-    let g = mul-le-mul (c .before .before .before .before .before .before .if3 .taken) (h .few-columns) in
-    ((own (c .before .before .before .before .before .before .before .before .before .before .before .before .before .before .before .before .before .before .before .before .before .args .a .now) (c .before .before .before .before .before .before .before .before .before .before .before .before .before .before .before .before .before .before .before .before .before .args .b .now) (c .before .before .before .before .before .before .before .before .before .before .before .before .before .before .before .before .check-pair .result) (c .before .before .before .before .before .before .before .before .before .before .before .before .before .before .before .before .check-pair .ensures) (c .before .before .before .before .before .before .before .before .before .before .before .before .before .before .before .if1 .left) (c .before .before .before .before .before .before .before .before .before .before .before .before .before .before .union-table .result) (c .before .before .before .before .before .before .before .before .before .before .before .before .before .before .union-table .ensures), ids-small (s .args .a .now) (s .args .b .now) _ (u .result) h), ((l .ensures, few, search needs), (omega arith, search needs, search needs)))
+fuse-sets-requires : tie.Need-fuse-sets-requires
+fuse-sets-requires c κs =
+    let s = c .before .before .before .before .before .before .before .before .before .before .before .before .before .before .before .before .before in
+    let u = c .before .before .before .before .before .before .before .before .before .before .union-table in
+    let l = c .before .before .before .before .before .list-sets in
+    let few : l .result ≤ maxSets = omega (arith, c .before .before .before .if2 .left) in
+    ((own (c .before .before .before .before .before .before .before .before .before .before .before .before .before .before .before .before .before .args .a .now) (c .before .before .before .before .before .before .before .before .before .before .before .before .before .before .before .before .before .args .b .now) (c .before .before .before .before .before .before .before .before .before .before .before .before .check-pair .result) (c .before .before .before .before .before .before .before .before .before .before .before .before .check-pair .ensures) (c .before .before .before .before .before .before .before .before .before .before .before .if1 .left) (c .before .before .before .before .before .before .before .before .before .before .union-table .result) (c .before .before .before .before .before .before .before .before .before .before .union-table .ensures), ids-small (s .args .a .now) (s .args .b .now) _ (u .result) (u .ensures)), (l .ensures, few, search needs))
 
 same-length : tie.Need-same-length
 same-length c = search needs
@@ -78,51 +67,14 @@ same-length-2 c = search needs
 
 returns-3 : tie.Need-returns-3
 returns-3 c =
-    let s = c .before .before .before .before .before .before .before .before .before .before .before .before .before .before .before .before .before .before .before .before .before .before .before .before .before .before .before .before .before in
-    let few : c .before .before .before .before .before .before .before .before .before .before .before .before .before .before .before .before .before .list-sets .result ≤ maxSets = omega (arith, c .before .before .before .before .before .before .before .before .before .before .before .before .before .before .before .if2 .left) in
-    let w = c .before .before .before .before .before .before .before .write-fused .ensures in
+    let s = c .before .before .before .before .before .before .before .before .before .before .before .before .before .before .before .before .before .before .before .before .before .before in
+    let l = c .before .before .before .before .before .before .before .before .before .before .list-sets in
+    let few : l .result ≤ maxSets = omega (arith, c .before .before .before .before .before .before .before .before .if2 .left) in
+    let w = c .before .before .before .before .fuse-sets in
     promised (s .args .a .now) (s .args .b .now) (s .args .table .now) (s .args .sets .now) _ _ _
-    (answers (c .before .before .before .before .before .before .before .before .before .before .before .before .before .before .before .before .before .before .before .before .before .before .before .before .before .before .before .before .before .args .a .now) (c .before .before .before .before .before .before .before .before .before .before .before .before .before .before .before .before .before .before .before .before .before .before .before .before .before .before .before .before .before .args .b .now) (c .before .before .before .before .before .before .before .before .before .before .before .before .before .before .before .before .before .before .before .before .before .before .before .before .check-pair .result) (c .before .before .before .before .before .before .before .before .before .before .before .before .before .before .before .before .before .before .before .before .before .before .before .before .check-pair .ensures) (c .before .before .before .before .before .before .before .before .before .before .before .before .before .before .before .before .before .before .before .before .before .before .before .if1 .left) (c .before .before .before .before .before .before .before .before .before .before .before .before .before .before .before .before .before .before .before .before .before .before .union-table .result) (c .before .before .before .before .before .before .before .before .before .before .before .before .before .before .before .before .before .before .before .before .before .before .union-table .ensures) _ _ (c .before .before .before .before .before .before .before .before .before .before .before .before .before .before .before .before .before .list-sets .ensures) few _ _ _ (w .0))
-    (writes (c .before .before .before .before .before .before .before .before .before .before .before .before .before .before .before .before .before .before .before .before .before .before .before .before .before .before .before .before .before .args .a .now) (c .before .before .before .before .before .before .before .before .before .before .before .before .before .before .before .before .before .before .before .before .before .before .before .before .before .before .before .before .before .args .b .now) (c .before .before .before .before .before .before .before .before .before .before .before .before .before .before .before .before .before .before .before .before .before .before .before .before .check-pair .result) (c .before .before .before .before .before .before .before .before .before .before .before .before .before .before .before .before .before .before .before .before .before .before .before .before .check-pair .ensures) (c .before .before .before .before .before .before .before .before .before .before .before .before .before .before .before .before .before .before .before .before .before .before .before .if1 .left) (c .before .before .before .before .before .before .before .before .before .before .before .before .before .before .before .before .before .before .before .before .before .before .union-table .result) (c .before .before .before .before .before .before .before .before .before .before .before .before .before .before .before .before .before .before .before .before .before .before .union-table .ensures) (complementSays (c .before .before .before .before .before .before .before .write-fused .result)) (s .args .table .now) _ (w .1 .0))
-    (lists (c .before .before .before .before .before .before .before .before .before .before .before .before .before .before .before .before .before .before .before .before .before .before .before .before .before .before .before .before .before .args .a .now) (c .before .before .before .before .before .before .before .before .before .before .before .before .before .before .before .before .before .before .before .before .before .before .before .before .before .before .before .before .before .args .b .now) (c .before .before .before .before .before .before .before .before .before .before .before .before .before .before .before .before .before .before .before .before .before .before .before .before .check-pair .result) (c .before .before .before .before .before .before .before .before .before .before .before .before .before .before .before .before .before .before .before .before .before .before .before .before .check-pair .ensures) (c .before .before .before .before .before .before .before .before .before .before .before .before .before .before .before .before .before .before .before .before .before .before .before .if1 .left) (c .before .before .before .before .before .before .before .before .before .before .before .before .before .before .before .before .before .before .before .before .before .before .union-table .result) (c .before .before .before .before .before .before .before .before .before .before .before .before .before .before .before .before .before .before .before .before .before .before .union-table .ensures) (complementSays (c .before .before .before .before .before .before .before .write-fused .result)) (s .args .sets .now) _ (w .1 .1))
-
-slice-aggregate-write-fused-5 : tie.Need-slice-aggregate-write-fused-5
-slice-aggregate-write-fused-5 c = search needs
-
-slice-aggregate-write-fused-6 : tie.Need-slice-aggregate-write-fused-6
-slice-aggregate-write-fused-6 c = search needs
-
-slice-aggregate-write-fused-7 : tie.Need-slice-aggregate-write-fused-7
-slice-aggregate-write-fused-7 c = search needs
-
-slice-aggregate-write-fused-8 : tie.Need-slice-aggregate-write-fused-8
-slice-aggregate-write-fused-8 c = search needs
-
-write-fused-requires-2 : tie.Need-write-fused-requires-2
-write-fused-requires-2 c κs =
-    let s = c .before .before .before .before .before .before .before .before .before .before .before .before .before .before .before .before .before .before .before .before .before in
-    let u = c .before .before .before .before .before .before .before .before .before .before .before .before .before .before .union-table in
-    let h = u .ensures in
-    let l = c .before .before .before .before .before .before .before .before .before .list-sets in
-    let few : l .result ≤ maxSets = omega (arith, c .before .before .before .before .before .before .before .if2 .left) in
-    let g = mul-le-mul few (h .few-columns) in
-    ((own (c .before .before .before .before .before .before .before .before .before .before .before .before .before .before .before .before .before .before .before .before .before .args .a .now) (c .before .before .before .before .before .before .before .before .before .before .before .before .before .before .before .before .before .before .before .before .before .args .b .now) (c .before .before .before .before .before .before .before .before .before .before .before .before .before .before .before .before .check-pair .result) (c .before .before .before .before .before .before .before .before .before .before .before .before .before .before .before .before .check-pair .ensures) (c .before .before .before .before .before .before .before .before .before .before .before .before .before .before .before .if1 .left) (c .before .before .before .before .before .before .before .before .before .before .before .before .before .before .union-table .result) (c .before .before .before .before .before .before .before .before .before .before .before .before .before .before .union-table .ensures), ids-small (s .args .a .now) (s .args .b .now) _ (u .result) h), ((l .ensures, few, search needs), (omega arith, search needs, search needs)))
-
-same-length-3 : tie.Need-same-length-3
-same-length-3 c = search needs
-
-same-length-4 : tie.Need-same-length-4
-same-length-4 c = search needs
-
-returns-4 : tie.Need-returns-4
-returns-4 c =
-    let s = c .before .before .before .before .before .before .before .before .before .before .before .before .before .before .before .before .before .before .before .before .before .before .before .before .before .before .before .before .before in
-    let few : c .before .before .before .before .before .before .before .before .before .before .before .before .before .before .before .before .before .list-sets .result ≤ maxSets = omega (arith, c .before .before .before .before .before .before .before .before .before .before .before .before .before .before .before .if2 .left) in
-    let w = c .before .before .before .before .before .before .before .write-fused2 .ensures in
-    promised (s .args .a .now) (s .args .b .now) (s .args .table .now) (s .args .sets .now) _ _ _
-    (answers (c .before .before .before .before .before .before .before .before .before .before .before .before .before .before .before .before .before .before .before .before .before .before .before .before .before .before .before .before .before .args .a .now) (c .before .before .before .before .before .before .before .before .before .before .before .before .before .before .before .before .before .before .before .before .before .before .before .before .before .before .before .before .before .args .b .now) (c .before .before .before .before .before .before .before .before .before .before .before .before .before .before .before .before .before .before .before .before .before .before .before .before .check-pair .result) (c .before .before .before .before .before .before .before .before .before .before .before .before .before .before .before .before .before .before .before .before .before .before .before .before .check-pair .ensures) (c .before .before .before .before .before .before .before .before .before .before .before .before .before .before .before .before .before .before .before .before .before .before .before .if1 .left) (c .before .before .before .before .before .before .before .before .before .before .before .before .before .before .before .before .before .before .before .before .before .before .union-table .result) (c .before .before .before .before .before .before .before .before .before .before .before .before .before .before .before .before .before .before .before .before .before .before .union-table .ensures) _ _ (c .before .before .before .before .before .before .before .before .before .before .before .before .before .before .before .before .before .list-sets .ensures) few _ _ _ (w .0))
-    (writes (c .before .before .before .before .before .before .before .before .before .before .before .before .before .before .before .before .before .before .before .before .before .before .before .before .before .before .before .before .before .args .a .now) (c .before .before .before .before .before .before .before .before .before .before .before .before .before .before .before .before .before .before .before .before .before .before .before .before .before .before .before .before .before .args .b .now) (c .before .before .before .before .before .before .before .before .before .before .before .before .before .before .before .before .before .before .before .before .before .before .before .before .check-pair .result) (c .before .before .before .before .before .before .before .before .before .before .before .before .before .before .before .before .before .before .before .before .before .before .before .before .check-pair .ensures) (c .before .before .before .before .before .before .before .before .before .before .before .before .before .before .before .before .before .before .before .before .before .before .before .if1 .left) (c .before .before .before .before .before .before .before .before .before .before .before .before .before .before .before .before .before .before .before .before .before .before .union-table .result) (c .before .before .before .before .before .before .before .before .before .before .before .before .before .before .before .before .before .before .before .before .before .before .union-table .ensures) (complementSays (c .before .before .before .before .before .before .before .write-fused2 .result)) (s .args .table .now) _ (w .1 .0))
-    (lists (c .before .before .before .before .before .before .before .before .before .before .before .before .before .before .before .before .before .before .before .before .before .before .before .before .before .before .before .before .before .args .a .now) (c .before .before .before .before .before .before .before .before .before .before .before .before .before .before .before .before .before .before .before .before .before .before .before .before .before .before .before .before .before .args .b .now) (c .before .before .before .before .before .before .before .before .before .before .before .before .before .before .before .before .before .before .before .before .before .before .before .before .check-pair .result) (c .before .before .before .before .before .before .before .before .before .before .before .before .before .before .before .before .before .before .before .before .before .before .before .before .check-pair .ensures) (c .before .before .before .before .before .before .before .before .before .before .before .before .before .before .before .before .before .before .before .before .before .before .before .if1 .left) (c .before .before .before .before .before .before .before .before .before .before .before .before .before .before .before .before .before .before .before .before .before .before .union-table .result) (c .before .before .before .before .before .before .before .before .before .before .before .before .before .before .before .before .before .before .before .before .before .before .union-table .ensures) (complementSays (c .before .before .before .before .before .before .before .write-fused2 .result)) (s .args .sets .now) _ (w .1 .1))
+    (answers (c .before .before .before .before .before .before .before .before .before .before .before .before .before .before .before .before .before .before .before .before .before .before .args .a .now) (c .before .before .before .before .before .before .before .before .before .before .before .before .before .before .before .before .before .before .before .before .before .before .args .b .now) (c .before .before .before .before .before .before .before .before .before .before .before .before .before .before .before .before .before .check-pair .result) (c .before .before .before .before .before .before .before .before .before .before .before .before .before .before .before .before .before .check-pair .ensures) (c .before .before .before .before .before .before .before .before .before .before .before .before .before .before .before .before .if1 .left) (c .before .before .before .before .before .before .before .before .before .before .before .before .before .before .before .union-table .result) (c .before .before .before .before .before .before .before .before .before .before .before .before .before .before .before .union-table .ensures) _ _ (l .ensures) few _ _ _ (w .ensures .0))
+    (writes (c .before .before .before .before .before .before .before .before .before .before .before .before .before .before .before .before .before .before .before .before .before .before .args .a .now) (c .before .before .before .before .before .before .before .before .before .before .before .before .before .before .before .before .before .before .before .before .before .before .args .b .now) (c .before .before .before .before .before .before .before .before .before .before .before .before .before .before .before .before .before .check-pair .result) (c .before .before .before .before .before .before .before .before .before .before .before .before .before .before .before .before .before .check-pair .ensures) (c .before .before .before .before .before .before .before .before .before .before .before .before .before .before .before .before .if1 .left) (c .before .before .before .before .before .before .before .before .before .before .before .before .before .before .before .union-table .result) (c .before .before .before .before .before .before .before .before .before .before .before .before .before .before .before .union-table .ensures) (complementSays (w .result)) (s .args .table .now) _ (w .ensures .1 .0))
+    (lists (c .before .before .before .before .before .before .before .before .before .before .before .before .before .before .before .before .before .before .before .before .before .before .args .a .now) (c .before .before .before .before .before .before .before .before .before .before .before .before .before .before .before .before .before .before .before .before .before .before .args .b .now) (c .before .before .before .before .before .before .before .before .before .before .before .before .before .before .before .before .before .check-pair .result) (c .before .before .before .before .before .before .before .before .before .before .before .before .before .before .before .before .before .check-pair .ensures) (c .before .before .before .before .before .before .before .before .before .before .before .before .before .before .before .before .if1 .left) (c .before .before .before .before .before .before .before .before .before .before .before .before .before .before .before .union-table .result) (c .before .before .before .before .before .before .before .before .before .before .before .before .before .before .before .union-table .ensures) (complementSays (w .result)) (s .args .sets .now) _ (w .ensures .1 .1))
 
 pub complement-union-spec : {M : Type 1} → statement M
 complement-union-spec =
@@ -134,19 +86,8 @@ complement-union-spec =
     slice-aggregate-list-sets
     list-sets-requires
     returns-2
-    slice-aggregate-write-fused
-    slice-aggregate-write-fused-2
-    slice-aggregate-write-fused-3
-    slice-aggregate-write-fused-4
-    write-fused-requires
+    slice-aggregate-fuse-sets
+    fuse-sets-requires
     same-length
     same-length-2
-    returns-3
-    slice-aggregate-write-fused-5
-    slice-aggregate-write-fused-6
-    slice-aggregate-write-fused-7
-    slice-aggregate-write-fused-8
-    write-fused-requires-2
-    same-length-3
-    same-length-4
-    returns-4)
+    returns-3)
