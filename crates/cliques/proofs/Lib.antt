@@ -6,6 +6,7 @@ pub mod Marks
 pub mod Maximal
 pub mod Listed
 pub mod Run
+pub mod Once
 pub mod Found
 pub mod Place
 pub mod Complete

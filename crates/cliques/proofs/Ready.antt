@@ -9,11 +9,10 @@ use lib.Bits.{bitOr}
 use lib.Count.{trailingZeros}
 use lib.Pow.{shr-le}
 use lib.Dec.{eqb}
-use lib.ListN.{length, take}
+use lib.ListN.{length}
 use borrow.Author.Tests.{eqb-true, eqb-false}
-use Rattle.definitions.specs.Statements.{Rising}
 use Rattle.definitions.proofs.Bools.{bool-cases, clash, not-so}
-use Rattle.cliques.specs.Bits.{has, both, isSub, withRow, lowest, withoutLowest, compareBits}
+use Rattle.cliques.specs.Bits.{has, both, isSub, withRow, lowest, withoutLowest}
 use Rattle.cliques.specs.Graph.{Graph}
 use Rattle.cliques.specs.Search.{Ready, Mutual, Around, Far, rowOf, taken}
 use Rattle.cliques.proofs.Bits.{In, has-none, has-shift, has-with-cases, none-zero, or-in-l, or-in-r, sub-true, both-l, both-r, trailing-none, at-lowest, rest-of}
@@ -50,23 +49,21 @@ ready-past {i = i} r passed h = record {
   reach = r .reach;
   room = r .room;
   few = r .few;
-  order = r .order;
 }
 
 -- ready for a row, and so for the next, with the set and with what the list holds by then
 pub ready-next : {width cap : ℕ} {neighbours : List ℕ} {i undecided set around : ℕ} {list : List ℕ} {count : ℕ}
     → Ready width cap neighbours i undecided set around list count
     → (undecided ≡ 0 → ⊥) → (next beside : ℕ) → Mutual (rowOf neighbours) (i + 1) next → Around (rowOf neighbours) next beside
-    → (grown : List ℕ) (found : ℕ) → length grown ≡ length list → found ≤ cap → Rising compareBits (take found grown)
+    → (grown : List ℕ) (found : ℕ) → length grown ≡ length list → found ≤ cap
     → Ready width cap neighbours (i + 1) (undecided - 1) next beside grown found
-ready-next r some next beside rows reach grown found size few order = record {
+ready-next r some next beside rows reach grown found size few = record {
   graph = graph-first (r .graph) _ (omega arith);
   bits = omega (arith, r .bits);
   rows = rows;
   reach = reach;
   room = omega (arith, r .room);
   few = few;
-  order = order;
 }
 
 -- the set that goes on from row i

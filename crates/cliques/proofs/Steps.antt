@@ -1,7 +1,7 @@
 -- Rows that the search passes, and each of its returns, as the program makes them. Assumes nothing.
 use mathlib.Core.Path.{_≡_, refl, sym, ap, _∙_}
 use mathlib.Core.Bool.{Bool, true, false, _&&_}
-use mathlib.Core.List.{List}
+use mathlib.Core.List.{List, [], _∷_, _++_}
 use Prim.Native.Nat.{ℕ, zero, suc, _+_, _-_, _*_, _%_, _^_, _≤_, _<_}
 use native.Mathlib.Nat.{sub-zero, one-mul, add-zero, add-suc}
 use native.Mathlib.Numerals.{add-one}
@@ -11,9 +11,8 @@ use lib.Dec.{eqb, leb, lit<}
 use lib.ListN.{length, take}
 use lib.Seq.{length-take-le}
 use borrow.Author.Tests.{eqb-true, eqb-false, ne-eqb, le-leb, lt-leb}
-use Rattle.definitions.specs.Ascending.{insert}
 use Rattle.definitions.proofs.Bools.{bool-cases, clash}
-use Rattle.cliques.specs.Bits.{has, both, isSub, withRow, compareBits}
+use Rattle.cliques.specs.Bits.{has, both, isSub, withRow}
 use Rattle.cliques.specs.Search.{Far, complete, isFull, taken, mayTake, searchSets}
 use Rattle.cliques.proofs.Bits.{In, has-none, sub-of}
 use Rattle.cliques.proofs.Maximal.{complete-later, complete-adds}
@@ -88,7 +87,7 @@ module _ (N : ℕ → ℕ) where
         ∙ ap (λ (f : ℕ). searchSets N cap f (i + p) set l) (sym one)
         ∙ search-passes undecided around p few (omega arith) (λ k lt. far k (omega arith)) (λ k lt. none k (omega arith))
 
-    pub search-lists : (undecided : ℕ) → undecided ≡ 0 → count < cap → insert compareBits set l ≡ searchSets N cap undecided i set l
+    pub search-lists : (undecided : ℕ) → undecided ≡ 0 → count < cap → l ++ (set ∷ []) ≡ searchSets N cap undecided i set l
     unfolding searchSets
     search-lists undecided e h = rw (e, lt-leb cap (length l) (omega (arith, held)))
 

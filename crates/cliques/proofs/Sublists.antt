@@ -1,18 +1,17 @@
--- Laws of ascending lists: mapped by a function that keeps the order, how long an insertion makes them, and two lists of which one has all
--- elements of the other; over any elements and any order of them. Assumes nothing.
+-- Laws of ascending lists: mapped by a function that keeps the order, with one element more, and two lists of which one has all elements of
+-- the other; over any elements and any order of them. Assumes nothing.
 use mathlib.Core.Path.{_≡_, refl, sym, ap, _∙_, subst}
 use mathlib.Core.Logic.{inl, inr, ⊎-elim}
-use mathlib.Core.List.{List, [], _∷_, map}
-use Prim.Native.Nat.{suc, _≤_, zero-le, suc-le-suc}
-use native.Mathlib.Nat.{le-suc, le-refl}
+use mathlib.Core.List.{List, [], _∷_, _++_, map}
+use Prim.Native.Nat.{suc, _≤_, zero-le}
 use native.Mathlib.Omega.{arith}
 use lib.ListN.{length}
 use Rattle.definitions.specs.declared.Order.{Order}
 use Rattle.definitions.specs.declared.Order.the-variants.{Before, Same, After}
-use Rattle.definitions.specs.Ascending.{put, insert}
+use Rattle.definitions.specs.Ascending.{put, insert, ascending}
 use Rattle.definitions.specs.Statements.{Stands, Orders, Rising}
 use Rattle.definitions.proofs.Lists.{map-stands}
-use Rattle.definitions.proofs.Ascending.{not-before-self, above-at, above-all}
+use Rattle.definitions.proofs.Ascending.{not-before-self, above-at, above-all, stands-split, stands-join, same-ascending, ascending-only}
 
 module _ {A : Type 0} {compare : A → A → Order} (laws : Orders compare) where
   -- a function that keeps the order of the list's elements keeps the list ascending
@@ -26,37 +25,29 @@ module _ {A : Type 0} {compare : A → A → Order} (laws : Orders compare) wher
     rising-map laws₂ f l (λ y z p q. g y z (inr p) (inr q)) (h .1),
   )
 
-  -- ---- how long an insertion makes a list
+  -- ---- the elements of a list and one more
 
-  put-longer : (r u : A) (t i : List A) (o : Order) → length t ≤ length i → suc (length t) ≤ length (put o r u t i)
-  put-longer r u t i Before h = le-suc (suc (length t))
-  put-longer r u t i Same h = le-refl (suc (length t))
-  put-longer r u t i After h = suc-le-suc h
-
-  pub insert-longer : (r : A) (t : List A) → length t ≤ length (insert compare r t)
-  unfolding insert
-  insert-longer r [] = zero-le
-  insert-longer r (u ∷ t) = put-longer r u t (insert compare r t) (compare r u) (insert-longer r t)
-
-  put-one : (r u : A) (t i : List A) (o : Order) → length i ≤ suc (length t) → length (put o r u t i) ≤ suc (suc (length t))
-  put-one r u t i Before h = le-refl (suc (suc (length t)))
-  put-one r u t i Same h = le-suc (suc (length t))
-  put-one r u t i After h = suc-le-suc h
-
-  pub insert-one : (r : A) (t : List A) → length (insert compare r t) ≤ suc (length t)
-  unfolding insert
-  insert-one r [] = le-refl 1
-  insert-one r (u ∷ t) = put-one r u t (insert compare r t) (compare r u) (insert-one r t)
+  -- it is put into the others
+  pub ascending-next : (r : A) (t : List A) → ascending compare (t ++ (r ∷ [])) ≡ insert compare r (ascending compare t)
+  unfolding ascending
+  ascending-next r t =
+      same-ascending laws (t ++ (r ∷ [])) (r ∷ t)
+      (λ x k. ⊎-elim (λ p. inr p) (λ p. ⊎-elim (λ e. inl e) (λ z. absurd z) p) (stands-split x t (r ∷ []) k))
+      (λ x k. stands-join x t (r ∷ []) (⊎-elim (λ e. inr (inl e)) (λ p. inl p) k))
 
   put-new : (r u : A) (t i : List A) (o : Order) → compare r u ≡ o → (r ≡ u → ⊥) → length i ≡ suc (length t) → length (put o r u t i) ≡ suc (suc (length t))
   put-new r u t i Before e d h = refl
   put-new r u t i Same e d h = absurd (d (laws .same r u e))
   put-new r u t i After e d h = ap suc h
 
-  pub insert-new : (r : A) (t : List A) → (Stands r t → ⊥) → length (insert compare r t) ≡ suc (length t)
+  insert-new : (r : A) (t : List A) → (Stands r t → ⊥) → length (insert compare r t) ≡ suc (length t)
   unfolding insert
   insert-new r [] d = refl
   insert-new r (u ∷ t) d = put-new r u t (insert compare r t) (compare r u) refl (λ e. d (inl e)) (insert-new r t (λ h. d (inr h)))
+
+  -- an element that is new there makes the list in order longer
+  pub ascending-new : (r : A) (t : List A) → (Stands r t → ⊥) → length (ascending compare (t ++ (r ∷ []))) ≡ suc (length (ascending compare t))
+  ascending-new r t d = ap length (ascending-next r t) ∙ insert-new r (ascending compare t) (λ h. d (ascending-only laws r t h))
 
   -- ---- an ascending list whose elements all stand in another list is no longer
 

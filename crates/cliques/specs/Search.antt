@@ -2,13 +2,11 @@
 -- `near j` is the set of the rows that complement row j. No width and no limit stands here.
 use mathlib.Core.Path.{_≡_}
 use mathlib.Core.Bool.{Bool, true, false, cond, not, _&&_}
-use mathlib.Core.List.{List}
+use mathlib.Core.List.{List, [], _∷_, _++_}
 use Prim.Native.Nat.{ℕ, zero, suc, _+_, _≤_}
 use lib.Dec.{eqb, leb}
-use lib.ListN.{length, getD, take}
-use Rattle.definitions.specs.Ascending.{insert}
-use Rattle.definitions.specs.Statements.{Rising}
-use Rattle.cliques.specs.Bits.{has, both, isSub, withRow, rowsBelow, Inside, compareBits}
+use lib.ListN.{length, getD}
+use Rattle.cliques.specs.Bits.{has, both, isSub, withRow, rowsBelow, Inside}
 use Rattle.cliques.specs.Graph.{Graph}
 
 -- the rows that complement row j, of the words of a graph
@@ -31,7 +29,7 @@ pub record Far (around set i : ℕ) : Type 0 where
   pub beyond : has around i ≡ false
 
 -- The search may go on: the set's rows stand before i and complement each other, the rows around it are known, `undecided` rows from i on
--- stand in the graph, each with a bit of a word, the list has room for `cap` sets, and its first `count` words are sets in set order.
+-- stand in the graph, each with a bit of a word, the list has room for `cap` sets, and no more are found yet.
 pub record Ready (width cap : ℕ) (neighbours : List ℕ) (i undecided set around : ℕ) (list : List ℕ) (count : ℕ) : Type 0 where
   pub graph : Graph neighbours (i + undecided)
   pub bits : i + undecided ≤ width
@@ -39,7 +37,6 @@ pub record Ready (width cap : ℕ) (neighbours : List ℕ) (i undecided set arou
   pub reach : Around (rowOf neighbours) set around
   pub room : cap ≤ length list
   pub few : count ≤ cap
-  pub order : Rising compareBits (take count list)
 
 module _ (near : ℕ → ℕ) where
   -- the set, with each row below i in ascending order that complements all that are in by then
@@ -76,10 +73,11 @@ module _ (near : ℕ → ℕ) where
     pub one : r ≡ false → (k : ℕ) × (has rivals k ≡ true) × (isEarlier set k ≡ true)
 
   -- The set is maximal among the rows before i, and `undecided` rows from i on are to be decided: lists the maximal sets that grow out of
-  -- it, until the list has `cap` sets. A row that complements all of the set is taken; any other is left, and taken where that may be.
+  -- it, as they are found, until the list has `cap` sets. A row that complements all of the set is taken; any other is left, and taken where
+  -- that may be.
   module _ (cap : ℕ) where
     unfoldable pub searchSets : ℕ → ℕ → ℕ → List ℕ → List ℕ
-    searchSets zero i set list = cond (leb cap (length list)) list (insert compareBits set list)
+    searchSets zero i set list = cond (leb cap (length list)) list (list ++ (set ∷ []))
     searchSets (suc undecided) i set list =
         cond (leb cap (length list)) list
         (cond (isSub set (near i)) (searchSets undecided (suc i) (withRow set i) list)

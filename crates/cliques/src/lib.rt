@@ -4,6 +4,9 @@ mod listing;
 mod search;
 mod sets;
 
+use listing::order_sets;
+use search::MAX_SETS;
+use search::search;
 ghost use Prim.Native.Nat.{suc, _≤_};
 ghost use lib.ListN.{length};
 ghost use Rattle.definitions.specs.Limits.{maxSets, maxUnionRows};
@@ -17,5 +20,9 @@ pub fn find_sets(neighbours: &[u64], n: usize, list: &mut [u64]) -> usize
     if n == 0 {
         return 0;
     }
-    search::search(neighbours, 0, n, 0, 0, list, 0)
+    let found = search(neighbours, 0, n, 0, 0, list, 0);
+    if MAX_SETS < found {
+        return found;
+    }
+    order_sets(list, found)
 }

@@ -1,5 +1,5 @@
 // The search: row by row, from the maximal sets of the rows before it to those with it.
-use crate::listing::insert;
+use crate::listing::append;
 use crate::sets::below;
 use crate::sets::has_row;
 use crate::sets::is_sub;
@@ -16,7 +16,7 @@ ghost use Rattle.cliques.specs.Graph.{Graph};
 ghost use Rattle.cliques.specs.Search.{Ready, Mutual, Around, Far, Common, NoEarlier, rowOf, taken, mayTake, searchSets};
 
 // As many sets as are listed; one more is found, and ends the search.
-const MAX_SETS: usize = 1024;
+pub(crate) const MAX_SETS: usize = 1024;
 
 // The rows of `start` that complement each row of the set.
 fn common(neighbours: &[u64], set: u64, start: u64) -> u64
@@ -111,7 +111,7 @@ fn far_rows(around: u64, i: usize, undecided: usize, set: u64) -> usize
 }
 
 // The set is maximal among the rows before i, with the rows around it, and `undecided` rows from i on are to be decided. Lists each maximal
-// set of all these rows that grows out of it, and gives the grown count: it stays from the 1,025th set on.
+// set of all these rows that grows out of it, as it finds them, and gives the grown count: it stays from the 1,025th set on.
 pub(crate) fn search(
     neighbours: &[u64],
     i: usize,
@@ -131,7 +131,7 @@ pub(crate) fn search(
     let row = i + passed;
     let left = undecided - passed;
     if left == 0 {
-        return insert(list, count, set);
+        return append(list, count, set);
     }
     if is_sub(set, neighbours[row]) {
         let next = with_row(set, row);

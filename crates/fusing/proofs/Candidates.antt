@@ -1,6 +1,6 @@
 -- The candidates for a row, column by column: what the words hold of each earlier row. Assumes nothing.
 use mathlib.Core.Path.{_≡_, refl, sym, _∙_, ap, ap₂}
-use mathlib.Core.Bool.{Bool, true, false, cond, not, _&&_, _||_}
+use mathlib.Core.Bool.{Bool, true, false, not, _&&_, _||_}
 use mathlib.Core.Logic.{⊎-elim}
 use mathlib.Core.List.{List, []}
 use Prim.Native.Nat.{ℕ, zero, suc, _+_, _-_, _/_, _%_, _^_, _<_, _≤_}
@@ -10,22 +10,22 @@ use lib.Bits.{bitAnd, bitOr, and-le-l}
 use lib.Dec.{eqb}
 use lib.ListN.{length, getD, drop}
 use borrow.Author.Tests.{eqb-true, eqb-false}
-use Rattle.definitions.specs.Limits.{maxUnionRows}
 use Rattle.definitions.specs.Word.{isFilled}
 use Rattle.definitions.specs.ComplementUnion.{agree, complement}
 use Rattle.definitions.proofs.Bools.{bool-cases, clash, and-i, or-cases, or-l, or-r}
-use Rattle.definitions.proofs.Rows.{cell-filled, cell-empty, agree-at}
+use Rattle.definitions.proofs.Rows.{cell-empty, agree-at}
 use Rattle.definitions.proofs.Patterns.{only}
 use Rattle.lists.proofs.Walks.{next, end}
 use Rattle.cliques.specs.Bits.{has, both, rowsBelow}
 use Rattle.cliques.proofs.Bits.{has-both, has-or, has-low, has-suc, has-none, both-l, both-r, below-in}
-use Rattle.patterns.specs.Marks.{slotOf}
+use Rattle.patterns.specs.Marks.{slotOf, blankOf}
+use Rattle.patterns.proofs.Marking.{has-blank, blank-fits}
 use Rattle.fusing.specs.Join.{filledIn}
 use Rattle.fusing.specs.Candidates.{Seen, Candidates}
 use Rattle.fusing.proofs.Apart.{bothIn, complement-filled}
 use Rattle.fusing.proofs.Columns.{filled-has, filled-within}
 
--- ---- all rows of a word, and the rows that a word lacks
+-- ---- the rows that a word lacks
 
 has-lacked : (n a k : ℕ) → a < 2 ^ n → k < n → has (2 ^ n - 1 - a) k ≡ not (has a k)
 has-lacked zero a k h l = absurd (omega arith)
@@ -44,23 +44,6 @@ has-lacked (suc n) a (suc k) h l =
     let p = pow-succ' 2 n in
     let half : (2 ^ suc n - 1 - a) / 2 ≡ 2 ^ n - 1 - a / 2 = omega arith in
     has-suc (2 ^ suc n - 1 - a) k ∙ ap (λ (x : ℕ). has x k) half ∙ has-lacked n (a / 2) k (omega arith) (omega arith) ∙ ap not (sym (has-suc a k))
-
-has-blank : (x k : ℕ) → k < maxUnionRows → has (cond (isFilled x) 0 (rowsBelow maxUnionRows)) k ≡ not (isFilled x)
-has-blank x k h =
-    bool-cases (isFilled x)
-    (λ e. rw e (has-none k))
-    (λ e. rw e (below-in maxUnionRows k h))
-
-blank-fits : (x : ℕ) → cond (isFilled x) 0 (rowsBelow maxUnionRows) < 2 ^ 64
-unfolding rowsBelow
-blank-fits x = bool-cases (isFilled x) (λ e. rw e (omega arith)) (λ e. rw e (omega arith))
-
-pub blank-empty : (x : ℕ) → x ≡ 0 → 18446744073709551615 ≡ cond (isFilled x) 0 (rowsBelow maxUnionRows)
-unfolding rowsBelow
-blank-empty x e = sym (rw (cell-empty x e))
-
-pub blank-filled : (x : ℕ) → (x ≡ 0 → ⊥) → 0 ≡ cond (isFilled x) 0 (rowsBelow maxUnionRows)
-blank-filled x some = sym (rw (cell-filled x some))
 
 -- ---- one earlier row t, of number k, and the row s: i columns are passed
 
@@ -228,7 +211,7 @@ module _ (row marks columns : List ℕ) where
 
   module _ (i agreed shared above within : ℕ) where
     pub passed-turn : (slot filled empty : ℕ) → i < length row → filled < 2 ^ 64 → filled ≡ getD columns i 0
-        → slot ≡ slotOf i (getD row i 0) → empty ≡ cond (isFilled (getD row i 0)) 0 (rowsBelow maxUnionRows)
+        → slot ≡ slotOf i (getD row i 0) → empty ≡ blankOf (getD row i 0)
         → PassedTo row marks columns i agreed shared above within
         → PassedTo row marks columns (i + 1) (bitAnd agreed (bitOr (bitOr (getD marks slot 0) (2 ^ 64 - 1 - filled)) empty))
         (bitOr shared (bitAnd filled (2 ^ 64 - 1 - empty))) (bitAnd above (bitOr filled empty)) (bitAnd within (2 ^ 64 - 1 - bitAnd filled empty))

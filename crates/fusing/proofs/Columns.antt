@@ -16,10 +16,11 @@ use Rattle.definitions.proofs.Sets.{marked-get, holds-within}
 use Rattle.lists.proofs.Flat.{rows-length, row-fits}
 use Rattle.cliques.specs.Bits.{has}
 use Rattle.cliques.proofs.Bits.{has-bits}
+use Rattle.patterns.proofs.Digits.{mark-next}
 use Rattle.rows.specs.Numbers.{rowAt}
 use Rattle.fusing.specs.Join.{filledIn, ColumnsOf, Within}
 use Rattle.fusing.specs.Candidates.{FilledRow}
-use Rattle.fusing.proofs.Lists.{map-at, rows-snoc, mark-next}
+use Rattle.fusing.proofs.Lists.{map-at, rows-snoc}
 
 -- the cell i of the row k
 pub cell-at : (c k i : ℕ) (w : List ℕ) → i < c → getD (rowAt c w k) i 0 ≡ getD w (k * c + i) 0

@@ -1,21 +1,18 @@
--- Laws of lists: an element's image, one row more, marks as digits. Assumes nothing.
+-- Laws of lists: an element's image, one row more, a mark joined to a set, what stands after a list. Assumes nothing.
 use mathlib.Core.Path.{_≡_, refl, sym, _∙_, ap, ap₂}
 use mathlib.Core.Bool.{Bool, true, false, cond, _&&_, _||_}
 use mathlib.Core.List.{List, [], _∷_, _++_, map}
 use Prim.Native.Nat.{ℕ, zero, suc, _+_, _*_, _%_, _^_, _<_, _≤_}
-use native.Mathlib.Nat.{le-of-suc-le-suc, not-suc-le-zero, pow-suc, zero-mul}
+use native.Mathlib.Nat.{le-of-suc-le-suc, not-suc-le-zero, zero-mul}
 use native.Mathlib.Omega.{arith}
-use lib.Bits.{bitOr, or-shifted-r, or-zero-r}
+use lib.Bits.{bitOr, or-zero-r}
 use lib.Dec.{eqb}
 use lib.ListN.{length, getD, take, drop}
-use lib.Pow.{shl-exact}
 use lib.Seq.{take-suc, take-all, paste, drop-paste, getD-drop}
 use Rattle.definitions.specs.Image.{rowsIn}
-use Rattle.definitions.specs.SetList.{bits}
 use Rattle.cliques.specs.Bits.{has, withRow}
 use Rattle.cliques.proofs.Bits.{has-with}
 use Rattle.cliques.proofs.Steps.{bit-at}
-use Rattle.patterns.proofs.Patterns.{bit-small}
 use Rattle.lists.proofs.Flat.{rows-length, rows-take, rows-at}
 
 pub map-at : {A B : Type 0} (f : A → B) (d : A) (e : B) (l : List A) (k : ℕ) → k < length l → getD (map f l) k e ≡ f (getD l k d)
@@ -31,36 +28,6 @@ rows-snoc c n w =
     sym (take-all (suc n) r (omega arith))
     ∙ take-suc r n [] (omega arith)
     ∙ ap₂ (λ (t : List (List ℕ)) (u : List ℕ). t ++ (u ∷ [])) (rows-take c n (n + 1) w (omega arith)) (rows-at c (n + 1) n w (omega arith))
-
--- ---- marks as the digits of a number
-
-pub bits-small : (s : List Bool) → bits s < 2 ^ length s
-unfolding bits
-bits-small [] = omega arith
-bits-small (m ∷ s) = rw (pow-suc 2 (length s)) (omega (arith, bits-small s, bit-small m))
-
-bits-snoc : (s : List Bool) (m : Bool) → bits (s ++ (m ∷ [])) ≡ cond m 1 0 * 2 ^ length s + bits s
-unfolding bits
-bits-snoc [] m = omega arith
-bits-snoc (x ∷ s) m = rw (bits-snoc s m, pow-suc 2 (length s)) (doubled m (2 ^ length s))
-  where
-    doubled : (m : Bool) (p : ℕ) → cond x 1 0 + 2 * (cond m 1 0 * p + bits s) ≡ cond m 1 0 * (p * 2) + (cond x 1 0 + 2 * bits s)
-    doubled true p = omega arith
-    doubled false p = omega arith
-
--- the mark of the next position, shifted to its place
-pub mark-next : (width : ℕ) (s : List Bool) (m : Bool) (w b k : ℕ) → k < width → length s ≡ k → w ≡ bits s → b ≡ cond m 1 0
-    → bitOr w (b * 2 ^ k % 2 ^ width) ≡ bits (s ++ (m ∷ []))
-mark-next width s m w b k h e ew eb =
-    let small : b < 2 = rw eb (bit-small m) in
-    let at : bits s < 2 ^ k = rw (← e) (bits-small s) in
-    ap₂ bitOr ew (shl-exact 1 k width small (omega arith))
-    ∙ or-shifted-r b k (bits s) at
-    ∙ rw (eb, ← e) (sym (bits-snoc s m))
-
--- a position that isn't held changes nothing
-pub bits-none : (s : List Bool) → bits (s ++ (false ∷ [])) ≡ bits s
-bits-none s = bits-snoc s false ∙ omega (arith, zero-mul (2 ^ length s))
 
 -- a mark joined to a set
 pub has-mark : (b : Bool) (w k i : ℕ) → k < 64 → has (bitOr w (cond b 1 0 * 2 ^ k % 2 ^ 64)) i ≡ (has w i || (b && eqb i k))

@@ -23,9 +23,10 @@ use Rattle.rows.specs.Numbers.{rowAt}
 use Rattle.cliques.specs.Bits.{has, withoutLowest}
 use Rattle.cliques.specs.Graph.{near}
 use Rattle.cliques.proofs.Bits.{Lowest, has-bits, has-ext, has-none, rest-in, rest-of, rest-out}
+use Rattle.patterns.proofs.Digits.{mark-next, bits-none}
 use Rattle.fusing.specs.Graph.{nearTo, graphWords, GraphOf}
 use Rattle.fusing.specs.Candidates.{CandidatesOf}
-use Rattle.fusing.proofs.Lists.{map-at, rows-snoc, mark-next, bits-none, has-mark}
+use Rattle.fusing.proofs.Lists.{map-at, rows-snoc, has-mark}
 
 -- one row more
 module _ (rows : List (List ℕ)) (s t : List ℕ) where

@@ -10,12 +10,12 @@ ghost use Rattle.definitions.specs.Limits.{maxColumns, maxUnionRows};
 ghost use Rattle.definitions.specs.Word.{isFilled};
 ghost use Rattle.definitions.specs.Image.{rowsIn};
 ghost use Rattle.definitions.specs.ComplementUnion.{agree};
-ghost use Rattle.cliques.specs.Bits.{rowsBelow};
 ghost use Rattle.patterns.specs.Marks.{slots};
 ghost use Rattle.rows.specs.Numbers.{rowAt};
 ghost use Rattle.fusing.specs.Graph.{graphWords, GraphOf};
 ghost use Rattle.fusing.specs.Join.{ColumnsOf};
 ghost use Rattle.fusing.specs.Candidates.{Candidates, CandidatesOf, FilledRow};
+use patterns::blank;
 use patterns::mark_row;
 use patterns::slot;
 
@@ -51,13 +51,6 @@ pub(crate) fn mark(held: bool) -> u64
     ensures { λ r. ⌜ r ≡ cond held 1 0 ⌝ }
 {
     if held { 1 } else { 0 }
-}
-
-// All rows for an empty cell, none for a filled one.
-fn blank(cell: u32) -> u64
-    ensures { λ r. ⌜ r ≡ cond (isFilled cell) 0 (rowsBelow maxUnionRows) ⌝ }
-{
-    if cell == 0 { 18446744073709551615 } else { 0 }
 }
 
 // The earlier rows that may complement a row, by the columns passed: those whose cells have the last hexadecimal digits of the row's where

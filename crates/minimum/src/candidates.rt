@@ -5,6 +5,7 @@ ghost use lib.ListN.{length};
 ghost use Rattle.definitions.specs.Limits.{maxColumns, maxUnionRows};
 ghost use Rattle.patterns.specs.Marks.{slots};
 ghost use Rattle.minimum.specs.Marks.{Marked, Candidates, NextOf};
+use patterns::blank;
 use patterns::mark_row;
 use patterns::slot;
 
@@ -32,12 +33,8 @@ pub(crate) fn for_row(row: &[u32], marks: &[u64]) -> u64
     let mut c = 0;
     while c < row.len() {
         let cell = row[c];
-        if cell == 0 {
-            c += 1;
-        } else {
-            set = set & marks[slot(c, cell)];
-            c += 1;
-        }
+        set = set & (marks[slot(c, cell)] | blank(cell));
+        c += 1;
     }
     set
 }

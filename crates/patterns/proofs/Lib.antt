@@ -1,5 +1,6 @@
--- Laws of filled patterns and their ones, of marks, and of tables that are tested entry by entry.
+-- Laws of digits, of filled patterns and their ones, of marks, and of tables that are tested entry by entry.
 pub mod Table
 pub mod Bytes
+pub mod Digits
 pub mod Patterns
 pub mod Marking

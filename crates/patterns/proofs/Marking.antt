@@ -1,6 +1,6 @@
--- The marks of the cells of a row, written cell by cell. Assumes nothing.
+-- The marks of the cells of a row, written cell by cell, and the blank word of a cell. Assumes nothing.
 use mathlib.Core.Path.{_≡_, refl, sym, _∙_, ap, subst}
-use mathlib.Core.Bool.{true}
+use mathlib.Core.Bool.{true, not}
 use mathlib.Core.List.{List}
 use Prim.Native.Nat.{ℕ, _+_, _*_, _%_, _^_, _<_, _≤_}
 use native.Mathlib.Numerals.{add-one}
@@ -10,12 +10,15 @@ use lib.Seq.{getD-set-same, getD-set-other}
 use lib.Bits.{bitOr}
 use lib.Dec.{eqb}
 use borrow.Author.Tests.{eqb-true, eqb-false}
+use Rattle.definitions.specs.Limits.{maxUnionRows}
+use Rattle.definitions.specs.Word.{isFilled}
 use Rattle.definitions.proofs.Bools.{bool-cases}
 use Rattle.definitions.proofs.Lists.{below-cases}
-use Rattle.cliques.specs.Bits.{has, withRow}
-use Rattle.cliques.proofs.Bits.{has-with-self, has-with-old}
+use Rattle.definitions.proofs.Rows.{cell-filled, cell-empty}
+use Rattle.cliques.specs.Bits.{has, withRow, rowsBelow}
+use Rattle.cliques.proofs.Bits.{has-none, has-with-self, has-with-old, below-in}
 use Rattle.cliques.proofs.Steps.{bit-at}
-use Rattle.patterns.specs.Marks.{slots, slotOf, MarkedFor, MarkedRow}
+use Rattle.patterns.specs.Marks.{slots, slotOf, blankOf, MarkedFor, MarkedRow}
 
 -- what was marked is marked still
 abbrev Still : List ℕ → List ℕ → Type 0
@@ -77,3 +80,22 @@ module _ (row : List ℕ) (j : ℕ) (found : List ℕ) where
 
   pub row-done : (c : ℕ) (marks : List ℕ) → RowTo row j found c marks → length row ≤ c → MarkedRow row j found marks
   row-done c marks inv h = record { here = λ i g. inv .here i (omega arith); still = inv .still }
+
+-- ---- the blank word of a cell
+
+pub blank-empty : (x : ℕ) → x ≡ 0 → 18446744073709551615 ≡ blankOf x
+unfolding rowsBelow
+blank-empty x e = sym (rw (cell-empty x e))
+
+pub blank-filled : (x : ℕ) → (x ≡ 0 → ⊥) → 0 ≡ blankOf x
+blank-filled x some = sym (rw (cell-filled x some))
+
+pub has-blank : (x k : ℕ) → k < maxUnionRows → has (blankOf x) k ≡ not (isFilled x)
+has-blank x k h =
+    bool-cases (isFilled x)
+    (λ e. rw e (has-none k))
+    (λ e. rw e (below-in maxUnionRows k h))
+
+pub blank-fits : (x : ℕ) → blankOf x < 2 ^ 64
+unfolding rowsBelow
+blank-fits x = bool-cases (isFilled x) (λ e. rw e (omega arith)) (λ e. rw e (omega arith))

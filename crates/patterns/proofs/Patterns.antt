@@ -1,14 +1,15 @@
 -- Laws of filled cells and patterns: a pattern's bound, its next bit, that its ones are the filled cells, and the walks that count and that go
 -- over rows. Assumes nothing.
-use mathlib.Core.Path.{_≡_, refl, sym, _∙_, ap, ap₂}
-use mathlib.Core.Bool.{Bool, true, false, cond}
-use mathlib.Core.List.{List, [], _∷_, flatten}
-use Prim.Native.Nat.{ℕ, suc, _+_, _-_, _*_, _/_, _%_, _^_, _<_, _≤_}
-use native.Mathlib.Nat.{pow-suc, lt-of-lt-of-le, add-mul, one-mul}
+use mathlib.Core.Path.{_≡_, refl, sym, _∙_, ap, ap₂, subst}
+use mathlib.Core.Bool.{cond}
+use mathlib.Core.List.{List, [], _∷_, map, map-append, flatten}
+use Prim.Native.Nat.{ℕ, _+_, _*_, _/_, _%_, _^_, _<_, _≤_}
+use native.Mathlib.Nat.{lt-of-lt-of-le, add-mul, one-mul}
+use native.Mathlib.Numerals.{add-one}
 use native.Mathlib.Omega.{arith}
-use lib.ListN.{length, getD, take, drop, length-drop, drop-of-length-le}
-use lib.Seq.{drop-cons, length-take-le, getD-take}
-use lib.Bits.{bitOr, or-shifted}
+use lib.ListN.{length, getD, take, drop, drop-of-length-le, length-map}
+use lib.Seq.{length-take-le, getD-take, take-suc}
+use lib.Bits.{bitOr}
 use lib.Pow.{pow-mono}
 use lib.Count.{ones, ones-step}
 use Rattle.definitions.specs.Limits.{maxColumns}
@@ -19,23 +20,15 @@ use Rattle.definitions.specs.SetList.{bits}
 use Rattle.lists.proofs.Flat.{row-fits, words-rows}
 use Rattle.lists.proofs.Walks.{next}
 use Rattle.patterns.specs.Pattern.{patternOf}
+use Rattle.patterns.proofs.Digits.{bit-small, bits-small, mark-next}
 
 -- 1 for a filled cell, 0 for the empty cell
 abbrev pub bitOf : ℕ → ℕ
 bitOf x = cond (isFilled x) 1 0
 
-pub bit-small : (b : Bool) → cond b 1 0 < 2
-bit-small true = omega arith
-bit-small false = omega arith
-
-pub pattern-step : (x : ℕ) (s : List ℕ) → patternOf (x ∷ s) ≡ bitOf x + 2 * patternOf s
-unfolding patternOf bits
-pattern-step x s = refl
-
 pattern-lt : (s : List ℕ) → patternOf s < 2 ^ length s
-unfolding patternOf bits
-pattern-lt [] = omega arith
-pattern-lt (x ∷ s) = rw (pow-suc 2 (length s)) (omega (arith, pattern-lt s, bit-small (isFilled x)))
+unfolding patternOf
+pattern-lt s = subst (λ (n : ℕ). patternOf s < 2 ^ n) (length-map s isFilled) (bits-small (map isFilled s))
 
 pub pattern-small : (s : List ℕ) → length s ≤ maxColumns → patternOf s < 2 ^ maxColumns
 pattern-small s h = lt-of-lt-of-le (pattern-lt s) (pow-mono h)
@@ -49,19 +42,15 @@ ones-pattern (x ∷ s) =
     let q : n / 2 ≡ patternOf s = omega (arith, bit-small (isFilled x)) in
     ones-step n ∙ ap₂ _+_ r (ap ones q ∙ ones-pattern s)
 
--- a cell more, from the last to the first
-pub pattern-turn : (row : List ℕ) (i p b : ℕ) → length row ≤ maxColumns → 0 < i → i ≤ length row → p ≡ patternOf (drop i row) → b ≡ bitOf (getD row (i - 1) 0)
-    → bitOr (p * 2 % 2 ^ 32) b ≡ patternOf (drop (i - 1) row)
-pattern-turn row i p b few pos le e f =
-    let n : suc (i - 1) ≡ i = omega arith in
-    let small : p < 65536 = rw e (pattern-small (drop i row) (simp length-drop (omega arith))) in
-    let s : p * 2 % 2 ^ 32 ≡ p * 2 ^ 1 = omega arith in
-    let t : b < 2 ^ 1 = rw f (bit-small (isFilled (getD row (i - 1) 0))) in
-    let next : patternOf (drop (i - 1) row) ≡ b + 2 * p =
-    ap patternOf (drop-cons row (i - 1) 0 (omega arith) ∙ ap (λ (k : ℕ). getD row (i - 1) 0 ∷ drop k row) n)
-    ∙ pattern-step (getD row (i - 1) 0) (drop i row)
-    ∙ ap₂ (λ (x y : ℕ). x + 2 * y) (sym f) (sym e) in
-    ap (λ (k : ℕ). bitOr k b) s ∙ or-shifted p 1 b t ∙ omega arith
+-- a cell more
+pub pattern-turn : (row : List ℕ) (i p b : ℕ) → length row ≤ maxColumns → i < length row → p ≡ patternOf (take i row) → b ≡ bitOf (getD row i 0)
+    → bitOr p (b * 2 ^ i % 2 ^ 32) ≡ patternOf (take (i + 1) row)
+unfolding patternOf
+pattern-turn row i p b few h e f =
+    let x = getD row i 0 in
+    mark-next 32 (map isFilled (take i row)) (isFilled x) p b i (omega arith) (length-map (take i row) isFilled ∙ length-take-le i row (omega arith)) e f
+    ∙ ap bits (sym (map-append isFilled (take i row) (x ∷ [])))
+    ∙ ap patternOf (sym (take-suc row i 0 h) ∙ ap (λ (n : ℕ). take n row) (sym (add-one i)))
 
 -- ---- the filled cells of a list, counted from the first
 

@@ -1,11 +1,12 @@
 -- Marks of the cells of rows, a bit a row: a word for each column and last hexadecimal digit holds the rows with such a cell there.
 use mathlib.Core.Path.{_≡_}
-use mathlib.Core.Bool.{true}
+use mathlib.Core.Bool.{true, cond}
 use mathlib.Core.List.{List}
 use Prim.Native.Nat.{ℕ, _+_, _*_, _%_, _<_}
 use lib.ListN.{length, getD}
-use Rattle.definitions.specs.Limits.{maxColumns}
-use Rattle.cliques.specs.Bits.{has}
+use Rattle.definitions.specs.Limits.{maxColumns, maxUnionRows}
+use Rattle.definitions.specs.Word.{isFilled}
+use Rattle.cliques.specs.Bits.{has, rowsBelow}
 
 -- a mark word for each column and last hexadecimal digit
 abbrev pub slots : ℕ
@@ -13,6 +14,10 @@ slots = maxColumns * 16
 
 abbrev pub slotOf : ℕ → ℕ → ℕ
 slotOf c cell = c * 16 + cell % 16
+
+-- the blank word of a cell: all rows for an empty one, none for a filled one
+abbrev pub blankOf : ℕ → ℕ
+blankOf cell = cond (isFilled cell) 0 (rowsBelow maxUnionRows)
 
 -- row j is marked for a cell of column c
 abbrev pub MarkedFor : List ℕ → ℕ → ℕ → ℕ → Type 0

@@ -13,6 +13,7 @@ ghost use Rattle.patterns.specs.Pattern.{patternOf};
 mod marks;
 mod ones;
 
+pub use marks::blank;
 pub use marks::mark_row;
 pub use marks::slot;
 pub use ones::count_ones;
@@ -30,10 +31,10 @@ pub fn pattern(row: &[u32]) -> u32
     ensures { λ r. ⌜ (r ≡ patternOf (now (row .entry))) × (r < 2 ^ maxColumns) ⌝ }
 {
     let mut p = 0;
-    let mut i = row.len();
-    while 0 < i {
-        i -= 1;
-        p = (p << 1) | bit(row[i]);
+    let mut i = 0;
+    while i < row.len() {
+        p = p | (bit(row[i]) << i);
+        i += 1;
     }
     p
 }

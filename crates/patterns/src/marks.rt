@@ -4,7 +4,7 @@ ghost use mathlib.Core.Path.{_≡_};
 ghost use Prim.Native.Nat.{_≤_, _<_};
 ghost use lib.ListN.{length};
 ghost use Rattle.definitions.specs.Limits.{maxColumns, maxUnionRows};
-ghost use Rattle.patterns.specs.Marks.{slots, slotOf, MarkedRow};
+ghost use Rattle.patterns.specs.Marks.{slots, slotOf, blankOf, MarkedRow};
 
 // The mark word for a cell of column c.
 pub fn slot(c: usize, cell: u32) -> usize
@@ -12,6 +12,13 @@ pub fn slot(c: usize, cell: u32) -> usize
     ensures { λ r. ⌜ (r ≡ slotOf c cell) × (r < slots) ⌝ }
 {
     c * 16 + (cell % 16) as usize
+}
+
+// All rows for an empty cell, none for a filled one.
+pub fn blank(cell: u32) -> u64
+    ensures { λ r. ⌜ r ≡ blankOf cell ⌝ }
+{
+    if cell == 0 { 18446744073709551615 } else { 0 }
 }
 
 // Marks the cells of row j.

@@ -1,9 +1,9 @@
--- `find_sets` lists all maximal sets: the search from the empty set, with every row undecided, finds them.
+-- `find_sets` lists all maximal sets: the search from the empty set, with every row undecided, finds them, and then they are put in order.
 use native.Mathlib.Omega.{arith}
 use borrow.Author.Needs.{needs}
 use Rattle.cliques.specs.Search.{rowOf}
 use Rattle.cliques.proofs.Ready.{graph-first, mutual-none, around-none}
-use Rattle.cliques.proofs.Complete.{none-found, all-found}
+use Rattle.cliques.proofs.Complete.{none-found, many-found, all-found}
 use Rattle.cliques.proofs.find_sets.Statement.{statement}
 use Rattle.cliques.proofs.find_sets.Tie as tie
 
@@ -21,7 +21,6 @@ search-requires c κs =
       reach = around-none (rowOf (q .args .neighbours .now)) 0;
       room = search needs;
       few = search needs;
-      order = search needs;
     }
 
 same-length : tie.Need-same-length
@@ -29,11 +28,37 @@ same-length c = search needs
 
 returns-2 : tie.Need-returns-2
 returns-2 c =
-    let k = c .before .before in
+    let k = c .before .before .before in
+    let q = k .before .before .before .before .before in
+    let s = q .args in
+    many-found (s .neighbours .now) (s .n) (q .pre .0) (k .search .last .1 .1 .1 .1 .1 .0) (k .search .result) (k .before .before .if1 .left)
+    (omega (arith, q .pre .2, k .search .kept .1 .1 .1 .1 .1 .0, k .search .ensures .0)) (k .search .ensures .1) (c .if2 .taken)
+
+order-sets-requires : tie.Need-order-sets-requires
+order-sets-requires c κs = search needs
+
+same-length-2 : tie.Need-same-length-2
+same-length-2 c = search needs
+
+returns-3 : tie.Need-returns-3
+returns-3 c =
+    let o = c .before .before in
+    let k = o .before .before .before .before .before in
     let q = k .before .before .before .before .before in
     let s = q .args in
     all-found (s .neighbours .now) (s .n) (q .pre .0) (k .search .last .1 .1 .1 .1 .1 .0) (k .search .result) (k .before .before .if1 .left)
-    (omega (arith, q .pre .2, k .search .kept .1 .1 .1 .1 .1 .0, k .search .ensures .0)) (k .search .ensures .1)
+    (omega (arith, q .pre .2, k .search .kept .1 .1 .1 .1 .1 .0, k .search .ensures .0)) (k .search .ensures .1) (omega (arith, o .before .before .if2 .left))
+    (o .order-sets .last .0) (o .order-sets .result)
+    (omega (arith, q .pre .2, k .search .kept .1 .1 .1 .1 .1 .0, k .search .ensures .0, o .order-sets .kept .0, o .order-sets .ensures .0)) (o .order-sets .ensures .1)
 
 pub find-sets-spec : {M : Type 1} → statement M
-find-sets-spec = tie.close (tie.spec returns search-requires same-length returns-2)
+find-sets-spec =
+    tie.close
+    (tie.spec
+    returns
+    search-requires
+    same-length
+    returns-2
+    order-sets-requires
+    same-length-2
+    returns-3)

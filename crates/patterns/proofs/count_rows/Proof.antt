@@ -6,7 +6,8 @@ use lib.ListN.{getD, take, drop}
 use borrow.Author.Needs.{needs}
 use Rattle.definitions.specs.Word.{isFilled}
 use Rattle.definitions.specs.MinimumUnion.{filled}
-use Rattle.patterns.proofs.Patterns.{bit-small, count-turn, count-ends}
+use Rattle.patterns.proofs.Digits.{bit-small}
+use Rattle.patterns.proofs.Patterns.{count-turn, count-ends}
 use Rattle.patterns.proofs.count_rows.Statement.{statement}
 use Rattle.patterns.proofs.count_rows.Tie as tie
 

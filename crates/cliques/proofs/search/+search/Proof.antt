@@ -1,6 +1,6 @@
 -- `search` lists what the function of the same recursion lists: far rows are passed, then a law for each return. The measure is the count
 -- of undecided rows.
-use mathlib.Core.Path.{_≡_, refl, sym, ap, ap₂, _∙_, subst}
+use mathlib.Core.Path.{_≡_, refl, sym, ap, ap₂, _∙_}
 use mathlib.Core.List.{List}
 use Prim.Native.Nat.{ℕ, suc, _+_, _-_, _≤_, _<_}
 use native.Mathlib.Omega.{arith}
@@ -10,16 +10,13 @@ use borrow.Author.Needs.{needs}
 use borrow.Fn.Kinds.{In}
 use borrow.Fn.PlainCycle.{Measures, is, falls, and}
 use Rattle.definitions.specs.Limits.{maxSets, maxUnionRows}
-use Rattle.definitions.specs.Statements.{Rising}
-use Rattle.cliques.specs.Bits.{compareBits}
 use Rattle.cliques.specs.Search.{Ready, rowOf, searchSets}
-use Rattle.cliques.proofs.Run.{search-rises}
 use Rattle.cliques.proofs.Ready.{graph-first, mutual-past, mutual-joined, mutual-taken, around-joined, far-apart, ready-past, ready-next}
 use Rattle.cliques.proofs.Steps.{search-stops, search-passes, search-lists, search-joins, search-leaves, search-takes}
 use Rattle.cliques.proofs.search.search.Reads as search′
 use Rattle.cliques.proofs.search.search.Kinds as search-kinds
 use Rattle.cliques.proofs.search.+search.Lts-search as lts
-use Rattle.cliques.proofs.listing.insert.Reads as insert-reads
+use Rattle.cliques.proofs.listing.append.Reads as append-reads
 use Rattle.cliques.proofs.search.far_rows.Reads as far-rows-reads
 use Rattle.cliques.proofs.search.may_take.Reads as may-take-reads
 use Rattle.cliques.proofs.search.rows_around.Reads as rows-around-reads
@@ -42,8 +39,8 @@ abbrev claims : ℕ → lts.Claims
 claims t = (
   far-rows-reads.Asked,
   far-rows-reads.Learnt,
-  insert-reads.Asked,
-  insert-reads.Learnt,
+  append-reads.Asked,
+  append-reads.Learnt,
   is-sub-reads.Asked,
   is-sub-reads.Learnt,
   with-row-reads.Asked,
@@ -116,8 +113,8 @@ module _ (t : ℕ) where
     less : (left ≡ 0 → ⊥) → left - 1 < t
     less some = omega (arith, c .before .before .before .before .pre .0)
 
-  insert-requires : lts.Need-insert-requires (claims t) (at t) search′.Post
-  insert-requires c κs = search needs
+  append-requires : lts.Need-append-requires (claims t) (at t) search′.Post
+  append-requires c κs = search needs
 
   same-length : lts.Need-same-length (claims t) (at t) search′.Post
   same-length c = search needs
@@ -127,7 +124,7 @@ module _ (t : ℕ) where
       let k = c .before .before in
       let p = k .before .before .before in (
         search needs,
-        k .insert .ensures .1
+        k .append .ensures .1
             ∙ search-lists (N p) (suc maxSets) (row p) (set p) (count p) (words p) (fits p) (left p) (k .before .before .if2 .taken) (few p)
             ∙ passes p,
       )
@@ -164,7 +161,7 @@ module _ (t : ℕ) where
       let some = u .before .before .if2 .left in
       let rows = mutual-joined (ready p) some (w .with-row .result) (w .with-row .ensures) (sym (u .is-sub .ensures) ∙ w .before .if3 .taken) in
       let reach = around-joined (N p) (set p) (row p) (around p) (w .with-row .result) (ready p .reach) (w .with-row .ensures) in
-      (less p some, ready-next (ready p) some (w .with-row .result) (bitOr (around p) (N p (row p))) rows reach (words p) (count p) refl (ready p .few) (ready p .order))
+      (less p some, ready-next (ready p) some (w .with-row .result) (bitOr (around p) (N p (row p))) rows reach (words p) (count p) refl (ready p .few))
 
   same-length-2 : lts.Need-same-length-2 (claims t) (at t) search′.Post
   same-length-2 c = search needs
@@ -194,7 +191,7 @@ module _ (t : ℕ) where
       let p = c .before .before .before .before .before in
       let some = c .before .before .before .before .if2 .left in
       let rows = mutual-past (ready p .rows) (row p + 1) (omega arith) in
-      (less p some, ready-next (ready p) some (set p) (around p) rows (ready p .reach) (words p) (count p) refl (ready p .few) (ready p .order))
+      (less p some, ready-next (ready p) some (set p) (around p) rows (ready p .reach) (words p) (count p) refl (ready p .few))
 
   may-take-requires : lts.Need-may-take-requires (claims t) (at t) search′.Post
   may-take-requires c κs =
@@ -228,9 +225,7 @@ module _ (t : ℕ) where
       let rows = mutual-taken (ready p) some (w .take-row .result) (w .take-row .ensures) in (
         less p some,
         ready-next (ready p) some (w .take-row .result) (c .before .rows-around .result) rows (c .before .rows-around .ensures)
-            (k .search2 .last .1 .1 .1 .1 .1 .0) (k .search2 .result) (k .search2 .kept .1 .1 .1 .1 .1 .0) (k .search2 .ensures .0)
-            (subst (Rising compareBits) (sym (k .search2 .ensures .1))
-            (search-rises (N p) (suc maxSets) (left p - 1) (row p + 1) (set p) (take (count p) (words p)) (ready p .order))),
+            (k .search2 .last .1 .1 .1 .1 .1 .0) (k .search2 .result) (k .search2 .kept .1 .1 .1 .1 .1 .0) (k .search2 .ensures .0),
       )
 
   same-length-3 : lts.Need-same-length-3 (claims t) (at t) search′.Post
@@ -276,7 +271,7 @@ pub +search-spec : {M : Type 1} → statement M
     (far-rows-requires t)
     (add-row t)
     (sub-left t)
-    (insert-requires t)
+    (append-requires t)
     (same-length t)
     (returns-2 t)
     (mul-is-sub t)

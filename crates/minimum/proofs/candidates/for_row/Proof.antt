@@ -2,7 +2,7 @@
 use borrow.Author.Needs.{needs}
 use Prim.Native.Nat.{_-_, _≤_}
 use lib.ListN.{length}
-use Rattle.minimum.proofs.Passing.{HeldTo, held-all, held-still, held-filled, held-done}
+use Rattle.minimum.proofs.Passing.{HeldTo, held-all, held-turn, held-done}
 use Rattle.minimum.proofs.candidates.for_row.Statement.{statement}
 use Rattle.minimum.proofs.candidates.for_row.Tie as tie
 
@@ -21,18 +21,6 @@ mul-cell c = search needs
 shared-slice-read-cell : tie.Need-shared-slice-read-cell Inv-loop μ-loop
 shared-slice-read-cell c = search needs
 
-add-c : tie.Need-add-c Inv-loop μ-loop
-add-c c = search needs
-
-loop-less : tie.Need-loop-less Inv-loop μ-loop
-loop-less c = search needs
-
-loop-again : tie.Need-loop-again Inv-loop μ-loop
-loop-again c =
-    let a = c .before .before .before .before .before .before .args in
-    let l = c .before .before .before .loop in
-    (search needs, held-still (a .row .now) (a .marks .now) (l .c) (l .set) (l .inv .1))
-
 slot-requires : tie.Need-slot-requires Inv-loop μ-loop
 slot-requires c κs = search needs
 
@@ -42,18 +30,21 @@ mul-set c = search needs
 shared-slice-read-set : tie.Need-shared-slice-read-set Inv-loop μ-loop
 shared-slice-read-set c = search needs
 
-add-c-2 : tie.Need-add-c-2 Inv-loop μ-loop
-add-c-2 c = search needs
+blank-requires : tie.Need-blank-requires Inv-loop μ-loop
+blank-requires c κs = search needs
 
-loop-less-2 : tie.Need-loop-less-2 Inv-loop μ-loop
-loop-less-2 c = search needs
+add-c : tie.Need-add-c Inv-loop μ-loop
+add-c c = search needs
 
-loop-again-2 : tie.Need-loop-again-2 Inv-loop μ-loop
-loop-again-2 c =
+loop-less : tie.Need-loop-less Inv-loop μ-loop
+loop-less c = search needs
+
+loop-again : tie.Need-loop-again Inv-loop μ-loop
+loop-again c =
     let a = c .before .before .before .before .before .before .before .before .args in
     let l = c .before .before .before .before .before .loop in
-    let r = c .before .slot in
-    (search needs, held-filled (a .row .now) (a .marks .now) (l .c) (l .set) (l .inv .1) (r .result) (r .ensures .0) (c .before .before .if1 .left))
+    let r = c .before .before .slot in
+    (search needs, held-turn (a .row .now) (a .marks .now) (l .c) (l .set) (r .result) (c .blank .result) (l .inv .1) (r .ensures .0) (c .blank .ensures))
 
 returns : tie.Need-returns Inv-loop μ-loop
 returns c =
@@ -70,13 +61,11 @@ for-row-spec =
     loop-holds
     mul-cell
     shared-slice-read-cell
-    add-c
-    loop-less
-    loop-again
     slot-requires
     mul-set
     shared-slice-read-set
-    add-c-2
-    loop-less-2
-    loop-again-2
+    blank-requires
+    add-c
+    loop-less
+    loop-again
     returns)
