@@ -8,8 +8,9 @@ mod union;
 mod widen;
 
 pub use columns::union_ids;
-pub use union::union_table;
-pub use union::widened_table;
+pub use union::first_words;
+pub use union::union_rows;
+pub use union::widen_both;
 
 // A table in work: its cells row by row, its column ids and both counts.
 pub struct Table {

@@ -6,11 +6,8 @@ ghost use lib.ListN.{length, take, getD};
 ghost use Rattle.definitions.specs.Limits.{maxColumns, maxRows, maxUnionRows};
 ghost use Rattle.definitions.specs.Image.{rowsIn};
 ghost use Rattle.definitions.specs.Ascending.{ascending};
-ghost use Rattle.definitions.specs.OuterUnion.{compareRow, unionIds, widenedRows, unionRows};
+ghost use Rattle.definitions.specs.OuterUnion.{compareRow, unionIds, widenedRows};
 ghost use Rattle.definitions.specs.Questions.{imageNumber};
-ghost use Rattle.tables.specs.Table.{bothRows, Holds};
-use crate::Ids;
-use crate::Table;
 use crate::widen::widen_table;
 
 // The first n words of a list.
@@ -56,30 +53,4 @@ pub fn union_rows(a: &[u32], b: &[u32], ids: &[u32], n: usize, cells: &mut [u32;
     let mut wide = [0u32; 1024];
     let count = widen_both(a, b, ids, n, &mut wide);
     order_cells(&wide, n, count, cells)
-}
-
-// The rows of two accepted images in the columns of the union, one after the other, as a table in work.
-pub fn widened_table(a: &[u32], b: &[u32], found: Ids) -> Table
-    requires { ⌜ (imageNumber maxRows (now a) ≡ 0) × (imageNumber maxRows (now b) ≡ 0) ⌝ }
-    requires { ⌜ (take (found .count) (found .ids) ≡ unionIds (now a) (now b)) × (found .count ≡ length (unionIds (now a) (now b))) × (found .count ≤ maxColumns) ⌝ }
-    ensures { λ r. ⌜ Holds r (unionIds (now (a .entry)) (now (b .entry))) (bothRows (now (a .entry)) (now (b .entry))) ⌝ }
-{
-    let count = found.count;
-    let mut t = Table::new(first_words(&found.ids, count), count);
-    let rows = widen_both(a, b, &found.ids, count, &mut t.cells);
-    t.rows = rows;
-    t
-}
-
-// The outer union of two accepted images as a table in work.
-pub fn union_table(a: &[u32], b: &[u32], found: Ids) -> Table
-    requires { ⌜ (imageNumber maxRows (now a) ≡ 0) × (imageNumber maxRows (now b) ≡ 0) ⌝ }
-    requires { ⌜ (take (found .count) (found .ids) ≡ unionIds (now a) (now b)) × (found .count ≡ length (unionIds (now a) (now b))) × (found .count ≤ maxColumns) ⌝ }
-    ensures { λ r. ⌜ Holds r (unionIds (now (a .entry)) (now (b .entry))) (unionRows (now (a .entry)) (now (b .entry))) ⌝ }
-{
-    let count = found.count;
-    let mut t = Table::new(first_words(&found.ids, count), count);
-    let rows = union_rows(a, b, &found.ids, count, &mut t.cells);
-    t.rows = rows;
-    t
 }

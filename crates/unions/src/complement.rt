@@ -17,6 +17,8 @@ use crate::image::write_table;
 use crate::questions::check_pair;
 use definitions::ComplementAnswer;
 use tables::Table;
+use tables::first_words;
+use tables::union_rows;
 
 // Lists the maximal sets of the first n rows; how many they are, at most 1,025.
 pub fn list_sets(cells: &[u32], n: usize, width: usize, list: &mut [u64]) -> usize
@@ -168,7 +170,9 @@ pub fn complement_union(
             table: checks.table,
         };
     }
-    let t = tables::union_table(a, b, checks.found);
+    let columns = checks.found.count;
+    let mut t = Table::new(first_words(&checks.found.ids, columns), columns);
+    t.rows = union_rows(a, b, &checks.found.ids, columns, &mut t.cells);
     let mut list = [0u64; 1025];
     let count = list_sets(&t.cells, t.rows, t.columns, &mut list);
     if 1024 < count {

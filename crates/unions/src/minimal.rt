@@ -6,6 +6,9 @@ ghost use Rattle.definitions.specs.Calls.{minimumImage, minimumOutcome};
 use crate::image::write_table;
 use crate::questions::check_pair;
 use definitions::MinimumAnswer;
+use tables::Table;
+use tables::first_words;
+use tables::union_rows;
 
 pub fn minimum_union(a: &[u32], b: &[u32], table: &mut [u32]) -> MinimumAnswer
     ensures answers { λ r. ⌜ minimumSays r ≡ minimumOutcome (now (a .entry)) (now (b .entry)) (length (now (table .entry))) ⌝ }
@@ -19,8 +22,9 @@ pub fn minimum_union(a: &[u32], b: &[u32], table: &mut [u32]) -> MinimumAnswer
             table: checks.table,
         };
     }
-    let t = tables::union_table(a, b, checks.found);
-    let columns = t.columns;
+    let columns = checks.found.count;
+    let mut t = Table::new(first_words(&checks.found.ids, columns), columns);
+    t.rows = union_rows(a, b, &checks.found.ids, columns, &mut t.cells);
     let mut kept = [0u32; 64];
     let left = minimum::minimum_rows(&t.cells, t.rows, columns, &mut kept);
     let rows = left.rows;

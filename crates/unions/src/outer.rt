@@ -6,6 +6,9 @@ ghost use Rattle.definitions.specs.Calls.{outerImage, outerOutcome};
 use crate::image::write_table;
 use crate::questions::check_pair;
 use definitions::OuterAnswer;
+use tables::Table;
+use tables::first_words;
+use tables::widen_both;
 
 pub fn outer_union(a: &[u32], b: &[u32], table: &mut [u32]) -> OuterAnswer
     ensures answers { λ r. ⌜ outerSays r ≡ outerOutcome (now (a .entry)) (now (b .entry)) (length (now (table .entry))) ⌝ }
@@ -19,8 +22,9 @@ pub fn outer_union(a: &[u32], b: &[u32], table: &mut [u32]) -> OuterAnswer
             table: checks.table,
         };
     }
-    let t = tables::widened_table(a, b, checks.found);
-    let columns = t.columns;
+    let columns = checks.found.count;
+    let mut t = Table::new(first_words(&checks.found.ids, columns), columns);
+    t.rows = widen_both(a, b, &checks.found.ids, columns, &mut t.cells);
     let mut order = [0u32; 64];
     let mut spare = [0u32; 64];
     let rows = rows::order_rows(&t.cells, columns, t.rows, &mut order, &mut spare);

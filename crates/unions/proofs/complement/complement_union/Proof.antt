@@ -6,8 +6,12 @@ use native.Mathlib.Nat.{mul-le-mul}
 use native.Mathlib.Omega.{arith}
 use lib.ListN.{length}
 use Rattle.definitions.specs.Limits.{maxSets}
+use Rattle.definitions.specs.OuterUnion.{unionIds, unionRows}
 use Rattle.definitions.specs.Answer.{complementSays}
 use Rattle.definitions.specs.Calls.{complementOutcome}
+use Rattle.tables.specs.declared.Table.{Table}
+use Rattle.tables.specs.Table.{Holds}
+use Rattle.tables.proofs.UnionLaws.{union-holds}
 use Rattle.unions.proofs.Pairs.{pair-refused}
 use Rattle.unions.proofs.Tables.{ids-small}
 use Rattle.unions.proofs.ComplementLaws.{own, no-sets, answers, writes, lists}
@@ -15,6 +19,23 @@ use Rattle.unions.proofs.DemandLaws.{promised}
 use borrow.Author.Needs.{needs}
 use Rattle.unions.proofs.complement.complement_union.Statement.{statement}
 use Rattle.unions.proofs.complement.complement_union.Tie as tie
+
+-- the table in work with T
+abbrev work : tie.After-list → Table
+work c = record {
+  cells = c .before .before .before .before .union-rows .last .1 .1 .1 .1 .0;
+  ids = c .before .before .before .before .before .before .before .before .before .new .result .ids;
+  rows = c .before .before .before .before .union-rows .result;
+  columns = c .before .before .before .before .before .before .before .before .before .new .result .columns;
+}
+
+held : (c : tie.After-list) → Holds (work c) (unionIds (c .before .before .before .before .before .before .before .before .before .before .before .before .before .before .before .before .before .before .before .before .args .a .now) (c .before .before .before .before .before .before .before .before .before .before .before .before .before .before .before .before .before .before .before .before .args .b .now)) (unionRows (c .before .before .before .before .before .before .before .before .before .before .before .before .before .before .before .before .before .before .before .before .args .a .now) (c .before .before .before .before .before .before .before .before .before .before .before .before .before .before .before .before .before .before .before .before .args .b .now))
+held c =
+    let s = c .before .before .before .before .before .before .before .before .before .before .before .before .before .before .before .before .before .before .before .before in
+    let k = c .before .before .before .before .before .before .before .before .before .before .before .before .before .before .before .check-pair in
+    let f = k .ensures .accepted (c .before .before .before .before .before .before .before .before .before .before .before .before .before .before .if1 .left) in
+    union-holds (s .args .a .now) (s .args .b .now) (k .result .found .ids) _ (k .result .found .count) (work c) (f .columns) (f .counted) (f .few)
+    (c .before .before .before .before .before .before .before .before .before .new .ensures .0) (c .before .before .before .before .before .before .before .before .before .new .ensures .1) (c .before .before .before .before .before .before .before .before .before .before .first-words .ensures) (c .before .before .before .before .union-rows .ensures)
 
 check-pair-requires : tie.Need-check-pair-requires
 check-pair-requires c κs = search needs
@@ -27,25 +48,32 @@ returns c =
     let e = pair-refused (s .args .a .now) (s .args .b .now) (k .result) (k .ensures) _ (c .if1 .taken) in
     promised (s .args .a .now) (s .args .b .now) (s .args .table .now) (s .args .sets .now) _ _ _ e refl refl
 
-union-table-requires : tie.Need-union-table-requires
-union-table-requires c κs =
-    let k = c .before .check-pair in
-    let f = k .ensures .accepted (c .if1 .left) in
-    ((f .first, f .second), (f .columns, f .counted, f .few))
+first-words-requires : tie.Need-first-words-requires
+first-words-requires c κs =
+    let f = c .before .before .before .before .check-pair .ensures .accepted (c .before .before .before .if1 .left) in
+    (f .few, let g = f .few in search needs)
+
+new-requires : tie.Need-new-requires
+new-requires c κs = search needs
+
+union-rows-requires : tie.Need-union-rows-requires
+union-rows-requires c κs =
+    let f = c .before .before .before .before .before .before .before .before .before .before .check-pair .ensures .accepted (c .before .before .before .before .before .before .before .before .before .if1 .left) in
+    (f .first, f .second, f .few, let g = f .few in search needs, f .columns)
 
 slice-aggregate-list-sets : tie.Need-slice-aggregate-list-sets
 slice-aggregate-list-sets c = search needs
 
 list-sets-requires : tie.Need-list-sets-requires
 list-sets-requires c κs =
-    let h = c .before .before .before .before .union-table .ensures in
+    let h = held c in
     let f = mul-le-mul (h .few-rows) (h .few-columns) in
     (h .few-rows, h .few-columns, omega (arith, h .cell-words), search needs)
 
 returns-2 : tie.Need-returns-2
 returns-2 c =
-    let s = c .before .before .before .before .before .before .before .before .before .before .before .before .before .before in
-    let e = no-sets (c .before .before .before .before .before .before .before .before .before .before .before .before .before .before .args .a .now) (c .before .before .before .before .before .before .before .before .before .before .before .before .before .before .args .b .now) (c .before .before .before .before .before .before .before .before .before .check-pair .result) (c .before .before .before .before .before .before .before .before .before .check-pair .ensures) (c .before .before .before .before .before .before .before .before .if1 .left) (c .before .before .before .before .before .before .before .union-table .result) (c .before .before .before .before .before .before .before .union-table .ensures) (length (s .args .table .now)) (length (s .args .sets .now)) (c .before .before .list-sets .ensures .many (c .if2 .taken)) in
+    let s = c .before .before .before .before .before .before .before .before .before .before .before .before .before .before .before .before .before .before .before .before .before .before .before in
+    let e = no-sets (c .before .before .before .before .before .before .before .before .before .before .before .before .before .before .before .before .before .before .before .before .before .before .before .args .a .now) (c .before .before .before .before .before .before .before .before .before .before .before .before .before .before .before .before .before .before .before .before .before .before .before .args .b .now) (c .before .before .before .before .before .before .before .before .before .before .before .before .before .before .before .before .before .before .check-pair .result) (c .before .before .before .before .before .before .before .before .before .before .before .before .before .before .before .before .before .before .check-pair .ensures) (c .before .before .before .before .before .before .before .before .before .before .before .before .before .before .before .before .before .if1 .left) (work (c .before .before .before)) (held (c .before .before .before)) (length (s .args .table .now)) (length (s .args .sets .now)) (c .before .before .list-sets .ensures .many (c .if2 .taken)) in
     promised (s .args .a .now) (s .args .b .now) (s .args .table .now) (s .args .sets .now) _ _ _ e refl refl
 
 slice-aggregate-fuse-sets : tie.Need-slice-aggregate-fuse-sets
@@ -53,11 +81,10 @@ slice-aggregate-fuse-sets c = search needs
 
 fuse-sets-requires : tie.Need-fuse-sets-requires
 fuse-sets-requires c κs =
-    let s = c .before .before .before .before .before .before .before .before .before .before .before .before .before .before .before .before .before in
-    let u = c .before .before .before .before .before .before .before .before .before .before .union-table in
+    let s = c .before .before .before .before .before .before .before .before .before .before .before .before .before .before .before .before .before .before .before .before .before .before .before .before .before .before in
     let l = c .before .before .before .before .before .list-sets in
     let few : l .result ≤ maxSets = omega (arith, c .before .before .before .if2 .left) in
-    ((own (c .before .before .before .before .before .before .before .before .before .before .before .before .before .before .before .before .before .args .a .now) (c .before .before .before .before .before .before .before .before .before .before .before .before .before .before .before .before .before .args .b .now) (c .before .before .before .before .before .before .before .before .before .before .before .before .check-pair .result) (c .before .before .before .before .before .before .before .before .before .before .before .before .check-pair .ensures) (c .before .before .before .before .before .before .before .before .before .before .before .if1 .left) (c .before .before .before .before .before .before .before .before .before .before .union-table .result) (c .before .before .before .before .before .before .before .before .before .before .union-table .ensures), ids-small (s .args .a .now) (s .args .b .now) _ (u .result) (u .ensures)), (l .ensures, few, search needs))
+    ((own (c .before .before .before .before .before .before .before .before .before .before .before .before .before .before .before .before .before .before .before .before .before .before .before .before .before .before .args .a .now) (c .before .before .before .before .before .before .before .before .before .before .before .before .before .before .before .before .before .before .before .before .before .before .before .before .before .before .args .b .now) (c .before .before .before .before .before .before .before .before .before .before .before .before .before .before .before .before .before .before .before .before .before .check-pair .result) (c .before .before .before .before .before .before .before .before .before .before .before .before .before .before .before .before .before .before .before .before .before .check-pair .ensures) (c .before .before .before .before .before .before .before .before .before .before .before .before .before .before .before .before .before .before .before .before .if1 .left) (work (c .before .before .before .before .before .before)) (held (c .before .before .before .before .before .before)), ids-small (s .args .a .now) (s .args .b .now) _ (work (c .before .before .before .before .before .before)) (held (c .before .before .before .before .before .before))), (l .ensures, few, search needs))
 
 same-length : tie.Need-same-length
 same-length c = search needs
@@ -67,14 +94,14 @@ same-length-2 c = search needs
 
 returns-3 : tie.Need-returns-3
 returns-3 c =
-    let s = c .before .before .before .before .before .before .before .before .before .before .before .before .before .before .before .before .before .before .before .before .before .before in
+    let s = c .before .before .before .before .before .before .before .before .before .before .before .before .before .before .before .before .before .before .before .before .before .before .before .before .before .before .before .before .before .before .before in
     let l = c .before .before .before .before .before .before .before .before .before .before .list-sets in
     let few : l .result ≤ maxSets = omega (arith, c .before .before .before .before .before .before .before .before .if2 .left) in
     let w = c .before .before .before .before .fuse-sets in
     promised (s .args .a .now) (s .args .b .now) (s .args .table .now) (s .args .sets .now) _ _ _
-    (answers (c .before .before .before .before .before .before .before .before .before .before .before .before .before .before .before .before .before .before .before .before .before .before .args .a .now) (c .before .before .before .before .before .before .before .before .before .before .before .before .before .before .before .before .before .before .before .before .before .before .args .b .now) (c .before .before .before .before .before .before .before .before .before .before .before .before .before .before .before .before .before .check-pair .result) (c .before .before .before .before .before .before .before .before .before .before .before .before .before .before .before .before .before .check-pair .ensures) (c .before .before .before .before .before .before .before .before .before .before .before .before .before .before .before .before .if1 .left) (c .before .before .before .before .before .before .before .before .before .before .before .before .before .before .before .union-table .result) (c .before .before .before .before .before .before .before .before .before .before .before .before .before .before .before .union-table .ensures) _ _ (l .ensures) few _ _ _ (w .ensures .0))
-    (writes (c .before .before .before .before .before .before .before .before .before .before .before .before .before .before .before .before .before .before .before .before .before .before .args .a .now) (c .before .before .before .before .before .before .before .before .before .before .before .before .before .before .before .before .before .before .before .before .before .before .args .b .now) (c .before .before .before .before .before .before .before .before .before .before .before .before .before .before .before .before .before .check-pair .result) (c .before .before .before .before .before .before .before .before .before .before .before .before .before .before .before .before .before .check-pair .ensures) (c .before .before .before .before .before .before .before .before .before .before .before .before .before .before .before .before .if1 .left) (c .before .before .before .before .before .before .before .before .before .before .before .before .before .before .before .union-table .result) (c .before .before .before .before .before .before .before .before .before .before .before .before .before .before .before .union-table .ensures) (complementSays (w .result)) (s .args .table .now) _ (w .ensures .1 .0))
-    (lists (c .before .before .before .before .before .before .before .before .before .before .before .before .before .before .before .before .before .before .before .before .before .before .args .a .now) (c .before .before .before .before .before .before .before .before .before .before .before .before .before .before .before .before .before .before .before .before .before .before .args .b .now) (c .before .before .before .before .before .before .before .before .before .before .before .before .before .before .before .before .before .check-pair .result) (c .before .before .before .before .before .before .before .before .before .before .before .before .before .before .before .before .before .check-pair .ensures) (c .before .before .before .before .before .before .before .before .before .before .before .before .before .before .before .before .if1 .left) (c .before .before .before .before .before .before .before .before .before .before .before .before .before .before .before .union-table .result) (c .before .before .before .before .before .before .before .before .before .before .before .before .before .before .before .union-table .ensures) (complementSays (w .result)) (s .args .sets .now) _ (w .ensures .1 .1))
+    (answers (c .before .before .before .before .before .before .before .before .before .before .before .before .before .before .before .before .before .before .before .before .before .before .before .before .before .before .before .before .before .before .before .args .a .now) (c .before .before .before .before .before .before .before .before .before .before .before .before .before .before .before .before .before .before .before .before .before .before .before .before .before .before .before .before .before .before .before .args .b .now) (c .before .before .before .before .before .before .before .before .before .before .before .before .before .before .before .before .before .before .before .before .before .before .before .before .before .before .check-pair .result) (c .before .before .before .before .before .before .before .before .before .before .before .before .before .before .before .before .before .before .before .before .before .before .before .before .before .before .check-pair .ensures) (c .before .before .before .before .before .before .before .before .before .before .before .before .before .before .before .before .before .before .before .before .before .before .before .before .before .if1 .left) (work (c .before .before .before .before .before .before .before .before .before .before .before)) (held (c .before .before .before .before .before .before .before .before .before .before .before)) _ _ (l .ensures) few _ _ _ (w .ensures .0))
+    (writes (c .before .before .before .before .before .before .before .before .before .before .before .before .before .before .before .before .before .before .before .before .before .before .before .before .before .before .before .before .before .before .before .args .a .now) (c .before .before .before .before .before .before .before .before .before .before .before .before .before .before .before .before .before .before .before .before .before .before .before .before .before .before .before .before .before .before .before .args .b .now) (c .before .before .before .before .before .before .before .before .before .before .before .before .before .before .before .before .before .before .before .before .before .before .before .before .before .before .check-pair .result) (c .before .before .before .before .before .before .before .before .before .before .before .before .before .before .before .before .before .before .before .before .before .before .before .before .before .before .check-pair .ensures) (c .before .before .before .before .before .before .before .before .before .before .before .before .before .before .before .before .before .before .before .before .before .before .before .before .before .if1 .left) (work (c .before .before .before .before .before .before .before .before .before .before .before)) (held (c .before .before .before .before .before .before .before .before .before .before .before)) (complementSays (w .result)) (s .args .table .now) _ (w .ensures .1 .0))
+    (lists (c .before .before .before .before .before .before .before .before .before .before .before .before .before .before .before .before .before .before .before .before .before .before .before .before .before .before .before .before .before .before .before .args .a .now) (c .before .before .before .before .before .before .before .before .before .before .before .before .before .before .before .before .before .before .before .before .before .before .before .before .before .before .before .before .before .before .before .args .b .now) (c .before .before .before .before .before .before .before .before .before .before .before .before .before .before .before .before .before .before .before .before .before .before .before .before .before .before .check-pair .result) (c .before .before .before .before .before .before .before .before .before .before .before .before .before .before .before .before .before .before .before .before .before .before .before .before .before .before .check-pair .ensures) (c .before .before .before .before .before .before .before .before .before .before .before .before .before .before .before .before .before .before .before .before .before .before .before .before .before .if1 .left) (work (c .before .before .before .before .before .before .before .before .before .before .before)) (held (c .before .before .before .before .before .before .before .before .before .before .before)) (complementSays (w .result)) (s .args .sets .now) _ (w .ensures .1 .1))
 
 pub complement-union-spec : {M : Type 1} → statement M
 complement-union-spec =
@@ -82,7 +109,9 @@ complement-union-spec =
     (tie.spec
     check-pair-requires
     returns
-    union-table-requires
+    first-words-requires
+    new-requires
+    union-rows-requires
     slice-aggregate-list-sets
     list-sets-requires
     returns-2
