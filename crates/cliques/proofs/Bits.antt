@@ -16,7 +16,7 @@ use Rattle.definitions.specs.ComplementUnion.{marked}
 use Rattle.definitions.specs.SetList.{bits}
 use Rattle.definitions.proofs.SetWords.{bit-marks}
 use Rattle.definitions.proofs.Bools.{bool-cases, bool-eq, clash, not-so, and-l, and-r, and-i, or-l, or-r}
-use Rattle.cliques.specs.Bits.{has, both, isSub, withRow, onlyOne, rowsBelow, Inside, lowest, withoutLowest}
+use Rattle.cliques.specs.Bits.{has, both, isSub, butNot, withRow, onlyOne, rowsBelow, Inside, lowest, withoutLowest}
 
 -- position k is in the set
 abbrev pub In : ℕ → ℕ → Type 0
@@ -336,6 +336,9 @@ lowest-inside set m n some e f = f m (at-lowest set m some e .there)
 pub rest-inside : (set rest n : ℕ) → rest ≡ withoutLowest set → Inside set n → Inside rest n
 rest-inside set rest n e f k h = f k (rest-in set k (ap (λ (x : ℕ). has x k) (sym e) ∙ h))
 
+pub rest-sub : (set rest all : ℕ) → rest ≡ withoutLowest set → ((k : ℕ) → In set k → In all k) → (k : ℕ) → In rest k → In all k
+rest-sub set rest all e f k h = f k (rest-in set k (ap (λ (x : ℕ). has x k) (sym e) ∙ h))
+
 -- ---- two sets that are not the same
 
 pub only-one-some : (a b : ℕ) → (a ≡ b → ⊥) → onlyOne a b ≡ 0 → ⊥
@@ -349,3 +352,24 @@ only-one-of a b k p q = has-one a b k ∙ ap₂ (λ (x y : Bool). not (Bool·beq
 
 pub only-one-out : (a b k : ℕ) → has (onlyOne a b) k ≡ false → has a k ≡ has b k
 only-one-out a b k h = beq-same (has a k) (has b k) (sym (has-one a b k) ∙ h)
+
+-- ---- a set without another
+
+pub but-in : (a b k : ℕ) → In a k → has b k ≡ false → In (butNot a b) k
+unfolding butNot
+but-in a b k p q = only-one-of a (both a b) k p (not-so (has (both a b) k) (λ h. clash (both-r a b k h) q))
+
+pub but-l : (a b k : ℕ) → In (butNot a b) k → In a k
+unfolding butNot
+but-l a b k h = bool-cases (has a k) (λ e. e) (λ e. both-l a b k (only-one-in a (both a b) k h ∙ ap not e))
+
+pub but-out : (a b k : ℕ) → In (butNot a b) k → has b k ≡ false
+unfolding butNot
+but-out a b k h = not-so (has b k) (λ q. let p = but-l a b k h in clash (both-in a b k p q) (only-one-in a (both a b) k h ∙ ap not p))
+
+-- one alone
+pub but-row : (a i k : ℕ) → In a k → (k ≡ i → ⊥) → In (butNot a (withRow 0 i)) k
+but-row a i k h d = but-in a (withRow 0 i) k h (not-so (has (withRow 0 i) k) (λ q. has-with-cases 0 i k q (λ z. clash z (has-none k)) d))
+
+pub but-self : (a i : ℕ) → In (butNot a (withRow 0 i)) i → ⊥
+but-self a i h = clash (has-with-self 0 i) (but-out a (withRow 0 i) i h)

@@ -8,6 +8,10 @@ pub mod Listed
 pub mod Run
 pub mod Once
 pub mod Found
+pub mod Adds
+pub mod Pivot
+pub mod Turns
+pub mod Start
 pub mod Place
 pub mod Complete
 pub mod Ready

@@ -1,23 +1,16 @@
 -- The search finds no set twice: one way of steps alone leads to a set. Assumes nothing.
-use mathlib.Core.Path.{_≡_, refl, sym, ap, _∙_, subst}
+use mathlib.Core.Path.{_≡_, refl, sym, _∙_, subst}
 use mathlib.Core.Logic.{⊎-elim}
 use mathlib.Core.List.{List, [], _∷_, _++_}
 use Prim.Native.Nat.{ℕ, zero, suc, _+_, _<_}
 use native.Mathlib.Omega.{arith}
-use lib.ListN.{length, length-append}
-use Rattle.definitions.specs.Ascending.{ascending}
 use Rattle.definitions.specs.Statements.{Stands}
-use Rattle.cliques.specs.Bits.{compareBits}
+use Rattle.cliques.specs.Maximal.{Once, Max}
 use Rattle.cliques.specs.Search.{taken}
 use Rattle.cliques.proofs.Bits.{In}
-use Rattle.cliques.proofs.Order.{setBits}
-use Rattle.cliques.proofs.Sublists.{ascending-new}
-use Rattle.cliques.proofs.Maximal.{Max, Simple, adjacent, Step, joined, left, took, step-max, one-parent, taken-self}
+use Rattle.cliques.proofs.Sublists.{once-join}
+use Rattle.cliques.proofs.Maximal.{Simple, adjacent, Step, joined, left, took, step-max, one-parent, taken-self}
 use Rattle.cliques.proofs.Run.{Reach, Run, stops, lists, joins, leaves, takes, only}
-
--- no set stands in the list twice: it has as many as it is long
-abbrev pub Once : List ℕ → Type 0
-Once l = length (ascending compareBits l) ≡ length l
 
 module _ (N : ℕ → ℕ) (n : ℕ) (g : Simple (adjacent N) n) (cap : ℕ) where
   -- a set is reached from one set alone
@@ -46,8 +39,7 @@ module _ (N : ℕ → ℕ) (n : ℕ) (g : Simple (adjacent N) n) (cap : ℕ) whe
   pub once : {f i set calls : ℕ} {l out : List ℕ} → Run N cap f i set l out calls → i + f ≡ n → Max (adjacent N) i set → New f i set l → Once l → Once out
   once (stops h) e m new o = o
   once {set = set} {l = l} (lists h) e m new o =
-      let size : suc (length l) ≡ length (l ++ (set ∷ [])) = simp length-append (omega arith) in
-      ascending-new setBits set l (new set refl) ∙ ap suc o ∙ size
+      once-join l (set ∷ []) o (λ k. k, tt) (λ x k q. ⊎-elim (λ p. new x (sym p) k) (λ z. z) q)
   once {f = suc f} {i = i} {set = set} (joins h s a) e m new o =
       once a (omega arith) (step-max N n g i set _ (omega arith) m (joined s refl)) (λ x r. new x (_, joined s refl, r)) o
   once {f = suc f} {i = i} {set = set} (leaves h s t a) e m new o =

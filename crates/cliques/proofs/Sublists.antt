@@ -1,4 +1,4 @@
--- Laws of ascending lists: mapped by a function that keeps the order, with one element more, and two lists of which one has all elements of
+-- Laws of lists in which no element stands twice, and of ascending lists: mapped by a function that keeps the order, with one element more, and two lists of which one has all elements of
 -- the other; over any elements and any order of them. Assumes nothing.
 use mathlib.Core.Path.{_≡_, refl, sym, ap, _∙_, subst}
 use mathlib.Core.Logic.{inl, inr, ⊎-elim}
@@ -12,6 +12,15 @@ use Rattle.definitions.specs.Ascending.{put, insert, ascending}
 use Rattle.definitions.specs.Statements.{Stands, Orders, Rising}
 use Rattle.definitions.proofs.Lists.{map-stands}
 use Rattle.definitions.proofs.Ascending.{not-before-self, above-at, above-all, stands-split, stands-join, same-ascending, ascending-only}
+use Rattle.cliques.specs.Maximal.{Once}
+
+-- two lists that share no element, one after the other
+pub once-join : {A : Type 0} (l m : List A) → Once l → Once m → ((x : A) → Stands x l → Stands x m → ⊥) → Once (l ++ m)
+once-join [] m o p d = p
+once-join (x ∷ l) m o p d = (
+  λ h. ⊎-elim (o .0) (d x (inl refl)) (stands-split x l m h),
+  once-join l m (o .1) p (λ y h k. d y (inr h) k),
+)
 
 module _ {A : Type 0} {compare : A → A → Order} (laws : Orders compare) where
   -- a function that keeps the order of the list's elements keeps the list ascending
@@ -45,9 +54,11 @@ module _ {A : Type 0} {compare : A → A → Order} (laws : Orders compare) wher
   insert-new r [] d = refl
   insert-new r (u ∷ t) d = put-new r u t (insert compare r t) (compare r u) refl (λ e. d (inl e)) (insert-new r t (λ h. d (inr h)))
 
-  -- an element that is new there makes the list in order longer
-  pub ascending-new : (r : A) (t : List A) → (Stands r t → ⊥) → length (ascending compare (t ++ (r ∷ []))) ≡ suc (length (ascending compare t))
-  ascending-new r t d = ap length (ascending-next r t) ∙ insert-new r (ascending compare t) (λ h. d (ascending-only laws r t h))
+  -- a list in which none stands twice is as long in order
+  pub ascending-once : (t : List A) → Once t → length (ascending compare t) ≡ length t
+  unfolding ascending
+  ascending-once [] o = refl
+  ascending-once (r ∷ t) o = insert-new r (ascending compare t) (λ h. o .0 (ascending-only laws r t h)) ∙ ap suc (ascending-once t (o .1))
 
   -- ---- an ascending list whose elements all stand in another list is no longer
 

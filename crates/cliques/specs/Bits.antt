@@ -28,6 +28,10 @@ withRow set k = bitOr set (2 ^ k)
 unfoldable pub onlyOne : ℕ → ℕ → ℕ
 onlyOne a b = bitXor a b
 
+-- the positions of a that are not in b
+unfoldable pub butNot : ℕ → ℕ → ℕ
+butNot a b = onlyOne a (both a b)
+
 -- the positions below i
 unfoldable pub rowsBelow : ℕ → ℕ
 rowsBelow i = 2 ^ i - 1

@@ -2,7 +2,7 @@
 use definitions::Order;
 ghost use mathlib.Core.Path.{_≡_};
 ghost use Prim.Native.Nat.{_<_};
-ghost use Rattle.cliques.specs.Bits.{has, both, isSub, withRow, rowsBelow, lowest, withoutLowest, compareBits};
+ghost use Rattle.cliques.specs.Bits.{has, both, isSub, butNot, withRow, rowsBelow, lowest, withoutLowest, compareBits};
 
 // Is row k in the set?
 pub(crate) fn has_row(set: u64, k: usize) -> bool
@@ -32,6 +32,21 @@ pub(crate) fn with_row(set: u64, k: usize) -> u64
     ensures { λ r. ⌜ r ≡ withRow set k ⌝ }
 {
     set | (1u64 << k)
+}
+
+// The rows of a that are not in b.
+pub(crate) fn minus(a: u64, b: u64) -> u64
+    ensures { λ r. ⌜ r ≡ butNot a b ⌝ }
+{
+    a ^ (a & b)
+}
+
+// The set without row k.
+pub(crate) fn without_row(set: u64, k: usize) -> u64
+    requires { ⌜ k < 64 ⌝ }
+    ensures { λ r. ⌜ r ≡ butNot set (withRow 0 k) ⌝ }
+{
+    minus(set, with_row(0, k))
 }
 
 // The rows below i.

@@ -1,0 +1,12 @@
+-- `minus` gives the positions of a set that are not in another: the operations are those of the definition.
+use mathlib.Core.Path.{refl}
+use Rattle.cliques.specs.Bits.{both, onlyOne, butNot}
+use Rattle.cliques.proofs.sets.minus.Statement.{statement}
+use Rattle.cliques.proofs.sets.minus.Tie as tie
+
+returns : tie.Need-returns
+unfolding both onlyOne butNot
+returns c = refl
+
+pub minus-spec : {M : Type 1} → statement M
+minus-spec = tie.close (tie.spec returns)
