@@ -1,7 +1,7 @@
 -- The search by prefixes finds every maximal set once, unless the list is full: `found`. Assumes nothing.
 use mathlib.Core.Path.{_≡_, refl, sym, _∙_, subst}
 use mathlib.Core.Logic.{⊎-elim}
-use mathlib.Core.List.{[]}
+use mathlib.Core.List.{List, []}
 use Prim.Native.Nat.{ℕ, zero, suc, _+_, zero-le}
 use native.Mathlib.Nat.{not-suc-le-zero, add-zero, zero-add}
 use native.Mathlib.Omega.{arith}
@@ -38,11 +38,12 @@ module _ (N : ℕ → ℕ) (n : ℕ) (g : Simple (adjacent N) n) where
   }
 
   -- what the search leaves in the list
-  pub found : (cap : ℕ) → Maxima (adjacent N) n cap (searchSets N cap n 0 0 [])
-  found cap =
-      let run₀ = run N cap n 0 0 [] in record {
+  pub found : (cap : ℕ) (list : List ℕ) → list ≡ searchSets N cap n 0 0 [] → Maxima (adjacent N) n cap list
+  found cap list e =
+      let run₀ = run N cap n 0 0 [] in
+      rw e (record {
         few = capped N cap run₀ zero-le;
         only = λ x h. ⊎-elim (λ k. absurd k) (reach-max x n 0 0 (zero-add n) start) (only N cap run₀ x h);
         once = once N n g cap run₀ (zero-add n) start (λ x r k. k) tt;
         all = λ few x m. finds N cap run₀ few x (reached x n 0 x (add-zero n) m refl);
-      }
+      })

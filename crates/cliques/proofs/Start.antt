@@ -1,7 +1,7 @@
 -- The first call of the quick search: no row is in the set yet, every row is ahead, and every maximal set is within them. Assumes nothing.
 use mathlib.Core.Path.{_≡_, sym, ap, _∙_, subst}
 use mathlib.Core.Logic.{inl, inr}
-use mathlib.Core.Bool.{Bool, true}
+use mathlib.Core.Bool.{Bool}
 use mathlib.Core.List.{List, []}
 use Prim.Native.Nat.{ℕ, _-_, _≤_, _<_}
 use native.Mathlib.Omega.{arith}
@@ -9,7 +9,6 @@ use lib.Dec.{eqb}
 use lib.ListN.{length, take}
 use lib.Seq.{length-take-le, getD-take}
 use borrow.Author.Tests.{eqb-true, eqb-false}
-use Rattle.definitions.specs.Statements.{Stands}
 use Rattle.definitions.proofs.Bools.{bool-cases, clash}
 use Rattle.cliques.specs.Bits.{has, rowsBelow, withRow}
 use Rattle.cliques.specs.Graph.{near, Graph}

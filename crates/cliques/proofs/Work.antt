@@ -108,5 +108,5 @@ few-calls neighbours n g pos few =
     let s = simple neighbours n g in
     let l = searchSets N (suc maxSets) n 0 0 [] in
     let e : length l ≡ length (maximalSets (near neighbours) n) =
-    omega (arith, counted (near neighbours) n s (suc maxSets) (searchSets N (suc maxSets) n 0 0 []) pos (found-all N n s (suc maxSets)) .count, length-map (maximalSets (near neighbours) n) bits) in
+    omega (arith, counted (near neighbours) n s (suc maxSets) l pos (found-all N n s (suc maxSets) l refl) .count, length-map (maximalSets (near neighbours) n) bits) in
     subst (λ (k : ℕ). searchCalls N (suc maxSets) n 0 0 [] ≤ suc (n * k)) e (calls-done N (suc maxSets) n (omega arith) (omega arith))

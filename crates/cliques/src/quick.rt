@@ -24,7 +24,7 @@ pub(crate) struct Tally {
     pub(crate) steps: usize,
 }
 
-// Does a done row complement each row ahead? Then no set of what is left is maximal.
+// Does a done row complement each row ahead? Then no set of what is left is maximal. Only a yes is relied on: a wrong no would cost steps.
 fn is_blocked(neighbours: &[u64], ahead: u64, done: u64) -> bool
     requires { ⌜ Inside done (length (now neighbours)) ⌝ }
     ensures { λ r. ⌜ (r ≡ true → Blocker (near (now (neighbours .entry))) ahead done) ⌝ }
@@ -76,7 +76,8 @@ pub(crate) fn quick_search(
     try_branches(neighbours, set, ahead, done, branch, list, tally)
 }
 
-// The same, of those sets alone that hold a row to branch on. The first such row is taken, and then it is done. A call that takes one is a step.
+// The same, of those sets alone that hold a row to branch on. The first such row is taken, and then it is done. A call that takes a row is a
+// step, and any other returns at once: s steps make at most 2 s + 1 calls. From call to call fewer rows are ahead, so that at most 65 are open at once.
 fn try_branches(
     neighbours: &[u64],
     set: u64,

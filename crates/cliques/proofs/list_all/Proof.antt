@@ -1,15 +1,12 @@
 -- `list_all` lists the maximal sets: the quick search with every row ahead, or the search from the empty set, with every row undecided.
-use mathlib.Core.Path.{_≡_, sym, ap, _∙_, subst}
-use mathlib.Core.List.{List}
-use Prim.Native.Nat.{ℕ, suc, _-_, _≤_}
+use mathlib.Core.Path.{_≡_, ap, _∙_}
+use Prim.Native.Nat.{ℕ, suc, _-_}
 use native.Mathlib.Omega.{arith}
 use lib.ListN.{length, take}
 use lib.Seq.{length-take-le}
 use borrow.Author.Needs.{needs}
 use Rattle.definitions.specs.Limits.{maxSets, maxUnionRows}
-use Rattle.cliques.specs.Bits.{rowsBelow, withRow}
-use Rattle.cliques.specs.Graph.{near}
-use Rattle.cliques.specs.Maximal.{Maxima}
+use Rattle.cliques.specs.Bits.{withRow}
 use Rattle.cliques.specs.Search.{rowOf}
 use Rattle.cliques.proofs.Complete.{simple}
 use Rattle.cliques.proofs.Found.{found}
@@ -66,8 +63,7 @@ returns c =
     let q = k .before .before .before .before .before .before .before .before .before .before .before .before .before in
     let s = q .args in (
       k .search .ensures .0,
-      subst (Maxima (near (s .neighbours .now)) (s .n) (suc maxSets)) (sym (k .search .ensures .1))
-          (found (rowOf (s .neighbours .now)) (s .n) (simple (s .neighbours .now) (s .n) (q .pre .0)) (suc maxSets)),
+      found (rowOf (s .neighbours .now)) (s .n) (simple (s .neighbours .now) (s .n) (q .pre .0)) (suc maxSets) _ (k .search .ensures .1),
     )
 
 same-length-2 : tie.Need-same-length-2

@@ -1,5 +1,4 @@
 -- `branches` gives a branch with a pivot: the done row that blocks, or the first row ahead.
-use mathlib.Core.Path.{_≡_, sym}
 use native.Mathlib.Omega.{arith}
 use borrow.Author.Needs.{needs}
 use lib.ListN.{length}
