@@ -48,6 +48,11 @@ module _ {A B : Type 0} where
   map-ext f g [] h = refl
   map-ext f g (x ∷ l) h = ap₂ (λ (b : B) (r : List B). b ∷ r) (h x (inl refl)) (map-ext f g l (λ y k. h y (inr k)))
 
+  pub map-at : (f : A → B) (d : A) (e : B) (l : List A) (k : ℕ) → k < length l → getD (map f l) k e ≡ f (getD l k d)
+  map-at f d e [] k h = absurd (not-suc-le-zero h)
+  map-at f d e (x ∷ l) zero h = refl
+  map-at f d e (x ∷ l) (suc k) h = map-at f d e l k (le-of-suc-le-suc h)
+
 -- ---- every element, some element
 
 module _ {A : Type 0} (p : A → Bool) where

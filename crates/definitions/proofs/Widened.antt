@@ -12,17 +12,12 @@ use borrow.Author.Tests.{eqb-false, eq-eqb, ne-eqb}
 use Rattle.definitions.specs.Lists.{any, place, distinct}
 use Rattle.definitions.specs.OuterUnion.{cellIn, widened}
 use Rattle.definitions.specs.Statements.{Stands}
-use Rattle.definitions.proofs.Lists.{any-none, place-of, place-none, distinct-true}
-
-map-get : {A B : Type 0} (f : A → B) (d : A) (e : B) (l : List A) (k : ℕ) → k < length l → getD (map f l) k e ≡ f (getD l k d)
-map-get f d e [] k h = absurd (not-suc-le-zero h)
-map-get f d e (x ∷ l) zero h = refl
-map-get f d e (x ∷ l) (suc k) h = map-get f d e l k (le-of-suc-le-suc h)
+use Rattle.definitions.proofs.Lists.{map-at, any-none, place-of, place-none, distinct-true}
 
 module _ (union ids row : List ℕ) where
   pub widened-at : (k : ℕ) → k < length union → getD (widened union ids row) k 0 ≡ cellIn ids row (getD union k 0)
   unfolding widened
-  widened-at k h = map-get (cellIn ids row) 0 0 union k h
+  widened-at k h = map-at (cellIn ids row) 0 0 union k h
 
   -- an id has one place among distinct ids
   pub cell-own : distinct eqb ids ≡ true → (j : ℕ) → j < length ids → cellIn ids row (getD ids j 0) ≡ getD row j 0

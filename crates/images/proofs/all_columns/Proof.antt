@@ -1,20 +1,22 @@
--- The invariant of the loop: every word may stand as one of the columns if the first i may and the rest may.
+-- Whether every word passed may stand as one of the columns.
 use borrow.Author.Needs.{needs}
-use mathlib.Core.Path.{refl}
+use mathlib.Core.Path.{_≡_, refl}
 use Prim.Native.Nat.{_≤_, _-_}
-use lib.ListN.{length}
+use lib.ListN.{length, take}
+use Rattle.definitions.specs.Lists.{all}
 use Rattle.definitions.specs.Image.{isColumn}
-use Rattle.lists.proofs.Walks.{AllFrom, all-turn, all-end}
+use Rattle.lists.proofs.Walks.{all-turn, all-end}
 use Rattle.images.proofs.all_columns.Statement.{statement}
 use Rattle.images.proofs.all_columns.Tie as tie
 
 abbrev Inv-loop : tie.InvT-loop
-Inv-loop w fit₀ i₀ fit i = (i ≤ length w) × AllFrom isColumn w i fit
+Inv-loop w fit₀ i₀ fit i = (i ≤ length w) × (fit ≡ all isColumn (take i w))
 
 abbrev μ-loop : tie.MeasureT-loop
 μ-loop w fit₀ i₀ fit i = length w - i
 
 loop-holds : tie.Need-loop-holds Inv-loop μ-loop
+unfolding all
 loop-holds c = (search needs, refl)
 
 mul-is-column : tie.Need-mul-is-column Inv-loop μ-loop
