@@ -14,8 +14,6 @@ pub mod Turns
 pub mod Start
 pub mod Place
 pub mod Complete
-pub mod Ready
-pub mod Rivals
 pub mod Steps
 pub mod Work
 pub mod Subgraph

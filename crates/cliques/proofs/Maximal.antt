@@ -13,7 +13,7 @@ use Rattle.definitions.proofs.Bools.{bool-cases, clash, not-so, and-l, and-r, a
 use Rattle.definitions.proofs.Lists.{below-cases}
 use Rattle.cliques.specs.Bits.{has, both, isSub, withRow}
 use Rattle.cliques.specs.Maximal.{Max}
-use Rattle.cliques.specs.Search.{Mutual, complete, isFull, taken, mayTake}
+use Rattle.cliques.specs.Search.{complete, isFull, taken, mayTake}
 use Rattle.cliques.proofs.Bits.{In, has-with-self, has-with-old, has-with-cases, same-set, both-in, both-l, both-r, sub-same, sub-true, sub-of}
 
 -- every two different rows of the set complement each other
@@ -162,30 +162,19 @@ module _ (N : ℕ → ℕ) where
           (λ p. clash (sub-of set (N i) (λ k hk. subst (λ (x : ℕ). In (N x) k) p (f k hk))) e);
     }
 
-    -- row i, beside a part of a set that it complements: these rows too complement each other
-    module _ (i set part : ℕ) (lt : i < n) (m : Mutual N i set) (sub : (k : ℕ) → In part k → In set k) (near : (k : ℕ) → In part k → In (N i) k) where
-      pub row-mutual : Mutual N (suc i) (withRow part i)
-      row-mutual = record {
-        inside = λ k h. has-with-cases part i k h (λ r. let l = m .inside k (sub k r) in omega arith) (λ p. omega arith);
-        clique = λ j k hj hk d.
-            has-with-cases part i j hj
-            (λ rj. has-with-cases part i k hk (λ rk. m .clique j k (sub j rj) (sub k rk) d)
-            (λ p. let l = m .inside j (sub j rj) in subst (λ (x : ℕ). In (N j) x) (sym p) (g .symmetric j i (omega arith) lt ∙ near j rj)))
-            (λ p. has-with-cases part i k hk (λ rk. subst (λ (x : ℕ). In (N x) k) (sym p) (near k rk)) (λ q. absurd (d (p ∙ sym q))));
-      }
-
     -- row i, beside a part of a maximal set
     row-max : (i set part : ℕ) → i < n → Max (adjacent N) i set → ((k : ℕ) → In part k → In set k) → ((k : ℕ) → In part k → In (N i) k)
         → ((j : ℕ) → j < i → ((k : ℕ) → In (withRow part i) k → In (N j) k) → ⊥) → Max (adjacent N) (suc i) (withRow part i)
     row-max i set part lt m sub near full = record {
-      inside = rows .inside;
-      clique = rows .clique;
+      inside = λ k h. has-with-cases part i k h (λ r. let l = m .inside k (sub k r) in omega arith) (λ p. omega arith);
+      clique = λ j k hj hk d.
+          has-with-cases part i j hj
+          (λ rj. has-with-cases part i k hk (λ rk. m .clique j k (sub j rj) (sub k rk) d)
+          (λ p. let l = m .inside j (sub j rj) in subst (λ (x : ℕ). In (N j) x) (sym p) (g .symmetric j i (omega arith) lt ∙ near j rj)))
+          (λ p. has-with-cases part i k hk (λ rk. subst (λ (x : ℕ). In (N x) k) (sym p) (near k rk)) (λ q. absurd (d (p ∙ sym q))));
       full = λ j h f. below-cases j i h (λ l. full j l f)
           (λ p. clash (f i (has-with-self part i)) (subst (λ (x : ℕ). has (N x) i ≡ false) (sym p) (g .apart i lt)));
     }
-      where
-        rows : Mutual N (suc i) (withRow part i)
-        rows = row-mutual i set part lt (record { inside = m .inside; clique = m .clique }) sub near
 
     pub step-max : (i set next : ℕ) → i < n → Max (adjacent N) i set → Step N i set next → Max (adjacent N) (suc i) next
     step-max i set next lt m (joined s e) =

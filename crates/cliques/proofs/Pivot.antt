@@ -1,6 +1,6 @@
 -- The quick search: which sets are within a part of the rows, those that hold a row and those that do not, and why one row may stay without
 -- a branch. Assumes nothing.
-use mathlib.Core.Path.{_≡_, refl, sym, ap, _∙_}
+use mathlib.Core.Path.{_≡_, refl, sym, ap, _∙_, subst}
 use mathlib.Core.Logic.{_⊎_, inl, inr, ⊎-elim}
 use mathlib.Core.Bool.{false}
 use Prim.Native.Nat.{ℕ, _<_}
@@ -8,22 +8,51 @@ use lib.Dec.{eqb}
 use borrow.Author.Tests.{eqb-true, eqb-false}
 use Rattle.definitions.proofs.Bools.{bool-cases, clash, not-so}
 use Rattle.cliques.specs.Bits.{has, both, butNot, withRow, lowest, withoutLowest}
-use Rattle.cliques.specs.Quick.{Sub, Joins, Parted, Within, Meeting, Blocker, Pivoted}
+use Rattle.cliques.specs.Quick.{Sub, Common, Joins, Parted, Within, Meeting, Pivoted}
 use Rattle.cliques.proofs.Bits.{In, Lowest, has-none, has-with-self, has-with-old, has-with-cases, same-set, both-in, both-l, both-r, is-lowest, at-lowest, rest-in, rest-of, rest-out, but-in, but-l, but-row, but-self}
 use Rattle.cliques.proofs.Maximal.{Simple, adjacent}
 
 none-in : {A : Type 0} (set k : ℕ) → set ≡ 0 → In set k → A
 none-in set k e h = absurd (clash h (ap (λ (x : ℕ). has x k) e ∙ has-none k))
 
+module _ (N : ℕ → ℕ) where
+  -- ---- the rows that complement each row of a set, row by row
+
+  pub common-none : (word : ℕ) → Common (adjacent N) 0 word word
+  common-none word = record { within = λ k h. h; each = λ j k hj hk. absurd (clash hj (has-none j)); all = λ k h f. h }
+
+  pub common-empty : (set : ℕ) → Common (adjacent N) set 0 0
+  common-empty set = record { within = λ k h. h; each = λ j k hj hk. absurd (clash hk (has-none k)); all = λ k h f. h }
+
+  module _ (rest word k less more : ℕ) (some : 0 < rest) (ek : k ≡ lowest rest) (er : less ≡ withoutLowest rest) (ew : more ≡ both word (N k)) where
+    low : Lowest rest k
+    low = at-lowest rest k some ek
+
+    common-step : (r : ℕ) → Common (adjacent N) (withoutLowest rest) (both word (N k)) r → Common (adjacent N) rest word r
+    common-step r c = record {
+      within = λ j h. both-l word (N k) j (c .within j h);
+      each = λ i j hi hj. bool-cases (eqb i k)
+          (λ t. subst (λ (x : ℕ). In (N x) j) (sym (eqb-true i k t)) (both-r word (N k) j (c .within j hj)))
+          (λ t. c .each i j (rest-of rest k i low hi (eqb-false i k t)) hj);
+      all = λ j h f. c .all j (both-in word (N k) j h (f k (low .there))) (λ i hi. f i (rest-in rest i hi));
+    }
+
+    pub common-turn : (r : ℕ) → Common (adjacent N) less more r → Common (adjacent N) rest word r
+    common-turn r c = common-step r (subst (λ (x : ℕ). Common (adjacent N) x (both word (N k)) r) er (subst (λ (x : ℕ). Common (adjacent N) less x r) ew c))
+
 -- ---- two branches with a pivot
 
-pub pivot-done : (N : ℕ → ℕ) (ahead done : ℕ) → Blocker (adjacent N) ahead done → Pivoted (adjacent N) ahead done 0
-pivot-done N ahead done b = record {
-  within = λ k h. none-in 0 k refl h;
-  pivot = b .0;
-  there = inr (b .1);
-  rest = λ k h _. b .2 k h;
-}
+-- a done row that complements each row ahead
+pub pivot-done : (N : ℕ → ℕ) (n : ℕ) → Simple (adjacent N) n → (ahead done rows : ℕ) → ((k : ℕ) → In ahead k → k < n) → ((k : ℕ) → In done k → k < n)
+    → Common (adjacent N) ahead done rows → (rows ≡ 0 → ⊥) → Pivoted (adjacent N) ahead done 0
+pivot-done N n g ahead done rows ha hd c some =
+    let there = is-lowest rows some .there in
+    let past = c .within (lowest rows) there in record {
+      within = λ k h. none-in 0 k refl h;
+      pivot = lowest rows;
+      there = inr past;
+      rest = λ k h _. g .symmetric (lowest rows) k (hd (lowest rows) past) (ha k h) ∙ c .each k (lowest rows) h there;
+    }
 
 pub pivot-first : (N : ℕ → ℕ) (ahead done row branch : ℕ) → 0 < ahead → row ≡ lowest ahead → branch ≡ butNot ahead (N row) → Pivoted (adjacent N) ahead done branch
 pivot-first N ahead done row branch some e f = record {

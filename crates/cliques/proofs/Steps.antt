@@ -1,60 +1,97 @@
--- Rows that the search passes, and each of its returns, as the program makes them. Assumes nothing.
+-- A turn of each loop of the search and each of its returns, as the program makes them. Assumes nothing.
 use mathlib.Core.Path.{_≡_, refl, sym, ap, _∙_}
-use mathlib.Core.Bool.{Bool, true, false, _&&_}
+use mathlib.Core.Bool.{Bool, true, false, not, _&&_}
 use mathlib.Core.List.{List, [], _∷_, _++_}
 use Prim.Native.Nat.{ℕ, zero, suc, _+_, _-_, _*_, _%_, _^_, _≤_, _<_}
-use native.Mathlib.Nat.{sub-zero, one-mul, add-zero, add-suc}
+use native.Mathlib.Nat.{not-suc-le-zero, one-mul}
 use native.Mathlib.Numerals.{add-one}
 use native.Mathlib.Omega.{arith}
 use lib.Pow.{shl-exact}
 use lib.Dec.{eqb, leb, lit<}
 use lib.ListN.{length, take}
 use lib.Seq.{length-take-le}
-use borrow.Author.Tests.{eqb-true, eqb-false, ne-eqb, le-leb, lt-leb}
-use Rattle.definitions.proofs.Bools.{bool-cases, clash}
+use borrow.Author.Tests.{ne-eqb, le-leb, lt-leb}
+use Rattle.definitions.proofs.Bools.{clash}
+use Rattle.definitions.proofs.Lists.{below-cases}
 use Rattle.cliques.specs.Bits.{has, both, isSub, withRow}
-use Rattle.cliques.specs.Search.{Far, complete, isFull, taken, mayTake, searchSets}
-use Rattle.cliques.proofs.Bits.{In, has-none, sub-of}
+use Rattle.cliques.specs.Search.{Ready, complete, isFull, taken, mayTake, searchSets}
+use Rattle.cliques.proofs.Bits.{In}
 use Rattle.cliques.proofs.Maximal.{complete-later, complete-adds}
 
 -- a one shifted to a place of a word
 pub bit-at : (width k : ℕ) → k < width → (1 * 2 ^ k) % 2 ^ width ≡ 2 ^ k
 bit-at width k h = shl-exact 1 k width (lit< tt) (omega arith) ∙ one-mul (2 ^ k)
 
-and-no : (b : Bool) → (b && false) ≡ false
-and-no true = refl
-and-no false = refl
+-- ready for a row, and so for the next, with what the list holds by then
+pub ready-next : {width cap : ℕ} {neighbours : List ℕ} {i undecided : ℕ} {list : List ℕ} {count : ℕ} → Ready width cap neighbours i undecided list count
+    → (undecided ≡ 0 → ⊥) → (grown : List ℕ) (found : ℕ) → length grown ≡ length list → found ≤ cap
+    → Ready width cap neighbours (i + 1) (undecided - 1) grown found
+ready-next r some grown found size few = record {
+  rows = omega (arith, r .rows);
+  bits = omega (arith, r .bits);
+  room = omega (arith, r .room);
+  few = few;
+}
 
 module _ (N : ℕ → ℕ) where
-  complete-none : (part : ℕ) → part ≡ complete N part 0
+  -- ---- completion, up to row k
+
+  pub complete-none : (part : ℕ) → part ≡ complete N part 0
   unfolding complete
   complete-none part = refl
 
-  -- ---- far rows
+  module _ (part grown k : ℕ) (e : grown ≡ complete N part k) where
+    pub complete-yes : isSub grown (N k) ≡ true → withRow grown k ≡ complete N part (k + 1)
+    unfolding complete
+    complete-yes s = rw (add-one, ← e, s)
 
-  module _ (set i : ℕ) (some : set ≡ 0 → ⊥) (first : has set 0 ≡ false) (none : both set (N i) ≡ 0) where
-    -- the empty set is completed to one with row 0
-    first-in : (k : ℕ) → 0 < k → In (complete N 0 k) 0
-    first-in k h =
-        complete-later N 0 1 k 0 h
-        (complete-adds N 0 0 (sub-of (complete N 0 0) (N 0) (λ j r. absurd (clash (ap (λ (x : ℕ). has x j) (complete-none 0) ∙ r) (has-none j)))))
+    pub complete-no : isSub grown (N k) ≡ false → grown ≡ complete N part (k + 1)
+    unfolding complete
+    complete-no s = rw (add-one, ← e, s)
 
-    far-leaves : isSub set (N i) ≡ false
-    unfolding isSub
-    far-leaves = ap (λ (x : ℕ). eqb x set) none ∙ ne-eqb 0 set (λ e. some (sym e))
+    -- a row too many
+    pub complete-off : (set i : ℕ) → k < i → isSub grown (N k) ≡ true → has set k ≡ false → false ≡ eqb (complete N part i) set
+    complete-off set i h s f =
+        let there : In (complete N part i) k = complete-later N part (suc k) i k h (complete-adds N part k (ap (λ (x : ℕ). isSub x (N k)) (sym e) ∙ s)) in
+        sym (ne-eqb (complete N part i) set (λ q. clash there (ap (λ (x : ℕ). has x k) q ∙ f)))
 
-    no-origin : complete N 0 i ≡ set → ⊥
-    no-origin e =
-        bool-cases (eqb i 0)
-        (λ t. some (sym e ∙ ap (complete N 0) (eqb-true i 0 t) ∙ sym (complete-none 0)))
-        (λ t. let d = eqb-false i 0 t in clash (first-in i (omega arith)) (ap (λ (x : ℕ). has x 0) e ∙ first))
+  -- ---- the test for a maximal set, up to row k
 
-    far-not-taken : mayTake N set i ≡ false
+  pub full-none : (set : ℕ) → isFull N set 0 ≡ true
+  unfolding isFull
+  full-none set = refl
+
+  pub full-more : (set k : ℕ) → isFull N set k ≡ true → isSub set (N k) ≡ false → isFull N set (k + 1) ≡ true
+  unfolding isFull
+  full-more set k e s = rw (add-one, e, s)
+
+  pub full-never : (set k i : ℕ) → k < i → isSub set (N k) ≡ true → isFull N set i ≡ false
+  unfolding isFull
+  full-never set k zero h s = absurd (not-suc-le-zero h)
+  full-never set k (suc i) h s =
+      below-cases k i h
+      (λ lt. ap (λ (x : Bool). x && not (isSub set (N i))) (full-never set k i lt s))
+      (λ p. ap (λ (y : Bool). isFull N set i && not y) (ap (λ (x : ℕ). isSub set (N x)) (sym p) ∙ s) ∙ and-no (isFull N set i))
+    where
+      and-no : (b : Bool) → (b && false) ≡ false
+      and-no true = refl
+      and-no false = refl
+
+  -- ---- the test for taking row i: `next` is what is taken, `part` what the row leaves of the set
+
+  module _ (set i next : ℕ) (full : Bool) (en : next ≡ taken N set i) (ef : full ≡ isFull N next i) where
+    full-is : full ≡ isFull N (taken N set i) i
+    full-is = ef ∙ ap (λ (x : ℕ). isFull N x i) en
+
+    pub may-yes : (part : ℕ) (b : Bool) → full ≡ true → part ≡ both set (N i) → b ≡ eqb (complete N part i) set → b ≡ mayTake N set i
     unfolding mayTake
-    far-not-taken =
-        ap (λ (b : Bool). isFull N (taken N set i) i && b)
-        (ne-eqb (complete N (both set (N i)) i) set (λ e. no-origin (ap (λ (x : ℕ). complete N x i) (sym none) ∙ e)))
-        ∙ and-no (isFull N (taken N set i) i)
+    may-yes part b t ep eb =
+        eb ∙ ap (λ (x : ℕ). eqb (complete N x i) set) ep
+        ∙ ap (λ (x : Bool). x && eqb (complete N (both set (N i)) i) set) (sym t ∙ full-is)
+
+    pub may-no : full ≡ false → false ≡ mayTake N set i
+    unfolding mayTake
+    may-no t = ap (λ (x : Bool). x && eqb (complete N (both set (N i)) i) set) (sym t ∙ full-is)
 
   -- ---- the search, return by return: the list is the first `count` words
 
@@ -69,23 +106,6 @@ module _ (N : ℕ → ℕ) where
     unfolding searchSets
     search-stops zero h = rw (le-leb cap (length l) (omega (arith, held)))
     search-stops (suc f) h = rw (le-leb cap (length l) (omega (arith, held)))
-
-    -- far rows are passed
-    pass-one : (f j around : ℕ) → count < cap → Far around set j → both set (N j) ≡ 0 → searchSets N cap (suc f) j set l ≡ searchSets N cap f (suc j) set l
-    unfolding searchSets
-    pass-one f j around h far none =
-        rw (lt-leb cap (length l) (omega (arith, held)), far-leaves set j (far .some) (far .first) none, far-not-taken set j (far .some) (far .first) none)
-
-    pub search-passes : (undecided around passed : ℕ) → count < cap → passed ≤ undecided → ((k : ℕ) → k < passed → Far around set (i + k))
-        → ((k : ℕ) → k < passed → both set (N (i + k)) ≡ 0)
-        → searchSets N cap (undecided - passed) (i + passed) set l ≡ searchSets N cap undecided i set l
-    search-passes undecided around zero few h far none = rw (sub-zero, add-zero)
-    search-passes undecided around (suc p) few h far none =
-        let one : undecided - p ≡ suc (undecided - suc p) = omega arith in
-        ap (λ (j : ℕ). searchSets N cap (undecided - suc p) j set l) (add-suc i p)
-        ∙ sym (pass-one (undecided - suc p) (i + p) around few (far p (omega arith)) (none p (omega arith)))
-        ∙ ap (λ (f : ℕ). searchSets N cap f (i + p) set l) (sym one)
-        ∙ search-passes undecided around p few (omega arith) (λ k lt. far k (omega arith)) (λ k lt. none k (omega arith))
 
     pub search-lists : (undecided : ℕ) → undecided ≡ 0 → count < cap → l ++ (set ∷ []) ≡ searchSets N cap undecided i set l
     unfolding searchSets

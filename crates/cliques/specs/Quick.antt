@@ -37,11 +37,13 @@ module _ (near : ℕ → ℕ → Bool) (n : ℕ) where
   abbrev pub Meeting : ℕ → ℕ → ℕ → ℕ → Type 0
   Meeting set ahead branch x = Within set ahead x × (k : ℕ) × (has branch k ≡ true) × (has x k ≡ true)
 
-module _ (near : ℕ → ℕ → Bool) (ahead done : ℕ) where
-  -- a done row complements each row ahead
-  abbrev pub Blocker : Type 0
-  Blocker = (p : ℕ) × (has done p ≡ true) × ((k : ℕ) → has ahead k ≡ true → near p k ≡ true)
+-- r holds the rows of `start` that complement each row of the set
+pub record Common (near : ℕ → ℕ → Bool) (set start r : ℕ) : Type 0 where
+  pub within : Sub r start
+  pub each : (j k : ℕ) → has set j ≡ true → has r k ≡ true → near j k ≡ true
+  pub all : (k : ℕ) → has start k ≡ true → ((j : ℕ) → has set j ≡ true → near j k ≡ true) → has r k ≡ true
 
+module _ (near : ℕ → ℕ → Bool) (ahead done : ℕ) where
   -- the branch is of rows ahead, and a row that is ahead or done complements each other row ahead
   pub record Pivoted (branch : ℕ) : Type 0 where
     pub within : Sub branch ahead

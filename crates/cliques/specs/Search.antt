@@ -1,40 +1,21 @@
 -- The search for all maximal sets as a function (Tsukiyama, Ide, Ariyoshi, Shirakawa 1977), and the number of its calls.
 -- `near j` is the set of the rows that complement row j. No width and no limit stands here.
-use mathlib.Core.Path.{_≡_}
-use mathlib.Core.Bool.{Bool, true, false, cond, not, _&&_}
+use mathlib.Core.Bool.{Bool, true, cond, not, _&&_}
 use mathlib.Core.List.{List, [], _∷_, _++_}
 use Prim.Native.Nat.{ℕ, zero, suc, _+_, _≤_}
 use lib.Dec.{eqb, leb}
 use lib.ListN.{length, getD}
-use Rattle.cliques.specs.Bits.{has, both, isSub, withRow, rowsBelow, Inside}
-use Rattle.cliques.specs.Graph.{Graph}
+use Rattle.cliques.specs.Bits.{both, isSub, withRow}
 
 -- the rows that complement row j, of the words of a graph
 abbrev pub rowOf : List ℕ → ℕ → ℕ
 rowOf neighbours j = getD neighbours j 0
 
--- the set's rows lie below i and complement each other
-pub record Mutual (near : ℕ → ℕ) (i set : ℕ) : Type 0 where
-  pub inside : Inside set i
-  pub clique : (j k : ℕ) → has set j ≡ true → has set k ≡ true → (j ≡ k → ⊥) → has (near j) k ≡ true
-
--- every row that complements a row of the set is in `around`
-abbrev pub Around : (ℕ → ℕ) → ℕ → ℕ → Type 0
-Around near set around = (j k : ℕ) → has set j ≡ true → has (near j) k ≡ true → has around k ≡ true
-
--- row i is not around a set that has rows, but not row 0: it can neither be joined to the set nor be taken from it
-pub record Far (around set i : ℕ) : Type 0 where
-  pub some : set ≡ 0 → ⊥
-  pub first : has set 0 ≡ false
-  pub beyond : has around i ≡ false
-
--- The search may go on: the set's rows stand before i and complement each other, the rows around it are known, `undecided` rows from i on
--- stand in the graph, each with a bit of a word, the list has room for `cap` sets, and no more are found yet.
-pub record Ready (width cap : ℕ) (neighbours : List ℕ) (i undecided set around : ℕ) (list : List ℕ) (count : ℕ) : Type 0 where
-  pub graph : Graph neighbours (i + undecided)
+-- The search may go on: `undecided` rows from i on stand in the graph, each with a bit of a word, the list has room for `cap` sets, and no
+-- more are found yet.
+pub record Ready (width cap : ℕ) (neighbours : List ℕ) (i undecided : ℕ) (list : List ℕ) (count : ℕ) : Type 0 where
+  pub rows : i + undecided ≤ length neighbours
   pub bits : i + undecided ≤ width
-  pub rows : Mutual (rowOf neighbours) i set
-  pub reach : Around (rowOf neighbours) set around
   pub room : cap ≤ length list
   pub few : count ≤ cap
 
@@ -57,21 +38,6 @@ module _ (near : ℕ → ℕ) where
   unfoldable pub mayTake : ℕ → ℕ → Bool
   mayTake set i = isFull (taken set i) i && eqb (complete (both set (near i)) i) set
 
-  -- r holds the rows of `start` that complement each row of the set
-  pub record Common (set start r : ℕ) : Type 0 where
-    pub within : (k : ℕ) → has r k ≡ true → has start k ≡ true
-    pub each : (j k : ℕ) → has set j ≡ true → has r k ≡ true → has (near j) k ≡ true
-    pub all : (k : ℕ) → has start k ≡ true → ((j : ℕ) → has set j ≡ true → has (near j) k ≡ true) → has r k ≡ true
-
-  -- row k complements all of the set below it
-  unfoldable pub isEarlier : ℕ → ℕ → Bool
-  isEarlier set k = isSub (both set (rowsBelow k)) (near k)
-
-  -- r tells whether no rival complements all of the set below it
-  pub record NoEarlier (set rivals : ℕ) (r : Bool) : Type 0 where
-    pub none : r ≡ true → (k : ℕ) → has rivals k ≡ true → isEarlier set k ≡ false
-    pub one : r ≡ false → (k : ℕ) × (has rivals k ≡ true) × (isEarlier set k ≡ true)
-
   -- The set is maximal among the rows before i, and `undecided` rows from i on are to be decided: lists the maximal sets that grow out of
   -- it, as they are found, until the list has `cap` sets. A row that complements all of the set is taken; any other is left, and taken where
   -- that may be.
@@ -85,7 +51,7 @@ module _ (near : ℕ → ℕ) where
         (searchSets undecided (suc i) (taken set i) (searchSets undecided (suc i) set list))
         (searchSets undecided (suc i) set list)))
 
-    -- how many calls that makes, with the first; where the program passes a far row without a call, one is counted
+    -- how many calls that makes, with the first
     unfoldable pub searchCalls : ℕ → ℕ → ℕ → List ℕ → ℕ
     searchCalls zero i set list = 1
     searchCalls (suc undecided) i set list =

@@ -1,11 +1,11 @@
 // All maximal complementing sets of a graph of at most 64 rows, in set order, in bounded work. Bit k of neighbours[j] says that the
 // rows j and k complement each other; a set of rows is a word whose bit k says that row k is in it.
-mod listing;
+mod ordering;
 mod quick;
 mod search;
 mod sets;
 
-use listing::order_sets;
+use ordering::order_sets;
 use quick::Tally;
 use quick::quick_search;
 use search::MAX_SETS;
@@ -19,7 +19,7 @@ ghost use Rattle.cliques.specs.Graph.{near, Graph, AllSets};
 ghost use Rattle.cliques.specs.Maximal.{Maxima};
 
 // As many steps as the quick search may take.
-const MAX_STEPS: usize = 8192;
+const MAX_STEPS: usize = 32768;
 
 // Lists the maximal sets as they are found: by the quick search, or by prefixes where that takes too many steps.
 fn list_all(neighbours: &[u64], n: usize, list: &mut [u64]) -> usize
@@ -34,7 +34,7 @@ fn list_all(neighbours: &[u64], n: usize, list: &mut [u64]) -> usize
     };
     let quick = quick_search(&neighbours[0..n], 0, all, 0, list, start);
     if quick.steps == 0 {
-        return search(neighbours, 0, n, 0, 0, list, 0);
+        return search(neighbours, 0, n, 0, list, 0);
     }
     quick.sets
 }

@@ -1,8 +1,7 @@
 // The quick search: Bron and Kerbosch's, with a pivot. On most graphs it takes few steps; on some it would take too many, so that it ends
 // after a number of steps, and the search by prefixes is made in its place.
-use crate::listing::append;
+use crate::ordering::append;
 use crate::search::MAX_SETS;
-use crate::sets::is_sub;
 use crate::sets::lowest_row;
 use crate::sets::meet;
 use crate::sets::minus;
@@ -10,13 +9,12 @@ use crate::sets::with_row;
 use crate::sets::without_lowest;
 use crate::sets::without_row;
 ghost use mathlib.Core.Path.{_≡_};
-ghost use mathlib.Core.Bool.{true};
 ghost use Prim.Native.Nat.{suc, _≤_, _<_};
 ghost use lib.ListN.{length, take};
 ghost use Rattle.definitions.specs.Limits.{maxSets, maxUnionRows};
 ghost use Rattle.cliques.specs.Bits.{Inside};
-ghost use Rattle.cliques.specs.Graph.{near};
-ghost use Rattle.cliques.specs.Quick.{Sub, Asked, Within, Meeting, Blocker, Pivoted, Adds};
+ghost use Rattle.cliques.specs.Graph.{near, Graph};
+ghost use Rattle.cliques.specs.Quick.{Sub, Common, Asked, Within, Meeting, Pivoted, Adds};
 
 // How many sets are listed, and how many steps may still be taken.
 pub(crate) struct Tally {
@@ -24,27 +22,30 @@ pub(crate) struct Tally {
     pub(crate) steps: usize,
 }
 
-// Does a done row complement each row ahead? Then no set of what is left is maximal. Only a yes is relied on: a wrong no would cost steps.
-fn is_blocked(neighbours: &[u64], ahead: u64, done: u64) -> bool
-    requires { ⌜ Inside done (length (now neighbours)) ⌝ }
-    ensures { λ r. ⌜ (r ≡ true → Blocker (near (now (neighbours .entry))) ahead done) ⌝ }
+// The rows of `start` that complement each row of the set.
+fn common(neighbours: &[u64], set: u64, start: u64) -> u64
+    requires { ⌜ Inside set (length (now neighbours)) ⌝ }
+    ensures { λ r. ⌜ Common (near (now (neighbours .entry))) set start r ⌝ }
 {
-    let mut rest = done;
+    let mut rest = set;
+    let mut word = start;
     while rest != 0 {
-        if is_sub(ahead, neighbours[lowest_row(rest)]) {
-            return true;
+        if word == 0 {
+            return 0;
         }
+        word = meet(word, neighbours[lowest_row(rest)]);
         rest = without_lowest(rest);
     }
-    false
+    word
 }
 
-// The rows ahead to branch on: the first of them, which is the pivot, and those that it does not complement; none if a done row blocks them.
+// The rows ahead to branch on: the first of them, which is the pivot, and those that it does not complement. None, if a done row complements
+// each row ahead: then no set of what is left is maximal.
 fn branches(neighbours: &[u64], ahead: u64, done: u64) -> u64
-    requires { ⌜ (0 < ahead) × Inside ahead (length (now neighbours)) × Inside done (length (now neighbours)) ⌝ }
+    requires { ⌜ Graph (now neighbours) (length (now neighbours)) × (0 < ahead) × Inside ahead (length (now neighbours)) × Inside done (length (now neighbours)) ⌝ }
     ensures { λ r. ⌜ Pivoted (near (now (neighbours .entry))) ahead done r ⌝ }
 {
-    if is_blocked(neighbours, ahead, done) {
+    if common(neighbours, ahead, done) != 0 {
         return 0;
     }
     minus(ahead, neighbours[lowest_row(ahead)])

@@ -10,7 +10,6 @@ use Rattle.cliques.specs.Bits.{withRow}
 use Rattle.cliques.specs.Search.{rowOf}
 use Rattle.cliques.proofs.Complete.{simple}
 use Rattle.cliques.proofs.Found.{found}
-use Rattle.cliques.proofs.Ready.{graph-first, mutual-none, around-none}
 use Rattle.cliques.proofs.Start.{start-asked, start-found}
 use Rattle.cliques.proofs.list_all.Statement.{statement}
 use Rattle.cliques.proofs.list_all.Tie as tie
@@ -46,10 +45,8 @@ quick-search-requires c κs =
 search-requires : tie.Need-search-requires
 search-requires c κs =
     let q = c .before .before .before .before .before .before .before .before .before .before .before .before in record {
-      graph = graph-first (q .pre .0) _ (omega arith);
+      rows = omega (arith, q .pre .0 .rows);
       bits = omega (arith, q .pre .2);
-      rows = mutual-none (rowOf (q .args .neighbours .now));
-      reach = around-none (rowOf (q .args .neighbours .now)) 0;
       room = omega (arith, q .pre .3, c .before .before .before .before .before .quick-search .kept .1 .1 .1 .1 .0);
       few = search needs;
     }
@@ -81,7 +78,7 @@ returns-2 c =
     length-take-le (r .sets) list (omega (arith, q .pre .3, k .quick-search .kept .1 .1 .1 .1 .0, k .quick-search .ensures .0)) in (
       k .quick-search .ensures .0,
       start-found (s .neighbours .now) (s .n) (q .pre .0) (w .with-row .result) (q .pre .1)
-          (w .with-row .ensures ∙ ap (λ (x : ℕ). withRow x (s .n - 1)) (w .before .below .ensures)) (s .n - 0) (omega arith) (suc maxSets) 8192 (r .steps) (take (r .sets) list)
+          (w .with-row .ensures ∙ ap (λ (x : ℕ). withRow x (s .n - 1)) (w .before .below .ensures)) (s .n - 0) (omega arith) (suc maxSets) 32768 (r .steps) (take (r .sets) list)
           (omega (arith, size, k .quick-search .ensures .0)) (c .if1 .left) (k .quick-search .ensures .1),
     )
 

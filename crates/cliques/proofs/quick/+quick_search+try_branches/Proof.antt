@@ -17,7 +17,7 @@ use Rattle.cliques.proofs.quick.+quick_search+try_branches.Lts-quick_se
 use Rattle.cliques.proofs.quick.try_branches.Reads as try-branches
 use Rattle.cliques.proofs.quick.try_branches.Kinds as try-branches-kinds
 use Rattle.cliques.proofs.quick.+quick_search+try_branches.Lts-try_branches as try-lts
-use Rattle.cliques.proofs.listing.append.Reads as append-reads
+use Rattle.cliques.proofs.ordering.append.Reads as append-reads
 use Rattle.cliques.proofs.quick.branches.Reads as branches-reads
 use Rattle.cliques.proofs.sets.lowest_row.Reads as lowest-row-reads
 use Rattle.cliques.proofs.sets.meet.Reads as meet-reads
@@ -102,7 +102,7 @@ module _ (t : ℕ) where
   quick-branches-requires : quick-lts.Need-branches-requires (quick-claims t) (quick-at t) quick-search.Post
   quick-branches-requires c κs =
       let q = c .before .before .before in
-      (omega (arith, c .if1 .left), λ k h. q .pre .1 .0 .parts .left k h .0, λ k h. q .pre .1 .0 .parts .past k h .0)
+      (q .pre .1 .0 .graph, omega (arith, c .if1 .left), λ k h. q .pre .1 .0 .parts .left k h .0, λ k h. q .pre .1 .0 .parts .past k h .0)
 
   quick-try-requires : quick-lts.Need-try-branches-requires (quick-claims t) (quick-at t) quick-search.Post
   quick-try-requires c κs =

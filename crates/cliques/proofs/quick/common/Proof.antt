@@ -6,15 +6,18 @@ use native.Mathlib.Omega.{arith}
 use lib.ListN.{length}
 use borrow.Author.Needs.{needs}
 use Rattle.cliques.specs.Bits.{Inside}
-use Rattle.cliques.specs.Search.{rowOf, Common}
+use Rattle.cliques.specs.Graph.{near}
+use Rattle.cliques.specs.Quick.{Common}
+use Rattle.cliques.specs.Search.{rowOf}
 use Rattle.cliques.proofs.Bits.{lowest-inside, rest-inside, rest-less}
-use Rattle.cliques.proofs.Rivals.{common-none, common-empty, common-turn}
-use Rattle.cliques.proofs.search.common.Statement.{statement}
-use Rattle.cliques.proofs.search.common.Tie as tie
+use Rattle.cliques.proofs.Maximal.{adjacent}
+use Rattle.cliques.proofs.Pivot.{common-none, common-empty, common-turn}
+use Rattle.cliques.proofs.quick.common.Statement.{statement}
+use Rattle.cliques.proofs.quick.common.Tie as tie
 
 abbrev Inv-loop : tie.InvT-loop
 Inv-loop neighbours set start rest₀ word₀ rest word =
-    Inside rest (length neighbours) × ((r : ℕ) → Common (rowOf neighbours) rest word r → Common (rowOf neighbours) set start r)
+    Inside rest (length neighbours) × ((r : ℕ) → Common (near neighbours) rest word r → Common (near neighbours) set start r)
 
 abbrev μ-loop : tie.MeasureT-loop
 μ-loop neighbours set start rest₀ word₀ rest word = rest
@@ -26,7 +29,7 @@ returns : tie.Need-returns Inv-loop μ-loop
 returns c =
     let b = c .before .before in
     let N = rowOf (b .before .before .args .neighbours .now) in
-    b .loop .inv .1 0 (subst (λ (x : ℕ). Common N (b .loop .rest) x 0) (sym (c .if1 .taken)) (common-empty N (b .loop .rest)))
+    b .loop .inv .1 0 (subst (λ (x : ℕ). Common (adjacent N) (b .loop .rest) x 0) (sym (c .if1 .taken)) (common-empty N (b .loop .rest)))
 
 lowest-row-requires : tie.Need-lowest-row-requires Inv-loop μ-loop
 lowest-row-requires c κs = search needs
@@ -70,7 +73,7 @@ returns-2 c =
     let l = c .before .loop in
     let N = rowOf (c .before .before .before .args .neighbours .now) in
     let none : l .rest ≡ 0 = omega arith in
-    l .inv .1 (l .word) (subst (λ (x : ℕ). Common N x (l .word) (l .word)) (sym none) (common-none N (l .word)))
+    l .inv .1 (l .word) (subst (λ (x : ℕ). Common (adjacent N) x (l .word) (l .word)) (sym none) (common-none N (l .word)))
 
 pub common-spec : {M : Type 1} → statement M
 common-spec =
