@@ -1,0 +1,59 @@
+-- `digest` ends, reads within the words, and stays below its divisor.
+use Prim.Native.Nat.{_≤_, _<_, _-_}
+use lib.ListN.{length}
+use borrow.Author.Needs.{needs}
+use Rattle.run_cases.proofs.print.digest.Statement.{statement}
+use Rattle.run_cases.proofs.print.digest.Tie as tie
+
+abbrev Inv-loop : tie.InvT-loop
+Inv-loop words d₀ i₀ d i = (i ≤ length words) × (d < 65521)
+
+abbrev μ-loop : tie.MeasureT-loop
+μ-loop words d₀ i₀ d i = length words - i
+
+loop-holds : tie.Need-loop-holds Inv-loop μ-loop
+loop-holds c = search needs
+
+mul-d : tie.Need-mul-d Inv-loop μ-loop
+mul-d c = search needs
+
+mul-wide : tie.Need-mul-wide Inv-loop μ-loop
+mul-wide c = search needs
+
+shared-slice-read-wide : tie.Need-shared-slice-read-wide Inv-loop μ-loop
+shared-slice-read-wide c = search needs
+
+wide-requires : tie.Need-wide-requires Inv-loop μ-loop
+wide-requires c κs = search needs
+
+add-d : tie.Need-add-d Inv-loop μ-loop
+add-d c = search needs
+
+add-i : tie.Need-add-i Inv-loop μ-loop
+add-i c = search needs
+
+loop-less : tie.Need-loop-less Inv-loop μ-loop
+loop-less c = search needs
+
+loop-again : tie.Need-loop-again Inv-loop μ-loop
+loop-again c = search needs
+
+returns : tie.Need-returns Inv-loop μ-loop
+returns c = search needs
+
+pub digest-spec : {M : Type 1} → statement M
+digest-spec =
+    tie.close
+    (tie.spec
+    Inv-loop
+    μ-loop
+    loop-holds
+    mul-d
+    mul-wide
+    shared-slice-read-wide
+    wide-requires
+    add-d
+    add-i
+    loop-less
+    loop-again
+    returns)
