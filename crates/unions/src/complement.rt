@@ -44,7 +44,7 @@ pub fn fuse_rows(
     order: &mut [u32],
     places: &mut [u32],
 ) -> usize
-    requires { ⌜ (n ≤ maxUnionRows) × (n * width ≤ length (now cells)) × ColumnsOf (rowsIn width n (now cells)) width (now columns) × (count ≤ maxSets) × (count ≤ length (now list)) × (take count (now list) ≡ map bits (unionSets (rowsIn width n (now cells)))) ⌝ }
+    requires { ⌜ (n * width ≤ length (now cells)) × ColumnsOf (rowsIn width n (now cells)) width (now columns) × (count ≤ maxSets) × (count ≤ length (now list)) × (take count (now list) ≡ map bits (unionSets (rowsIn width n (now cells)))) ⌝ }
     requires { ⌜ (count * width ≤ length (now joined)) × (count ≤ length (now order)) × (count ≤ length (now places)) ⌝ }
     ensures { λ r. ⌜ (r ≤ count) × (r ≤ length (now (order .exit))) × FusedOf (rowsIn width n (now (cells .entry))) width (now (joined .exit)) (take r (now (order .exit))) (take count (now (places .exit))) ⌝ }
 {
@@ -57,7 +57,7 @@ pub fn fuse_rows(
 // The fused table goes to the table buffer, the set list to the set buffer. The lists for joined rows have room for the sets.
 pub fn write_fused(
     t: Table,
-    filled_rows: &[u64],
+    columns: &[u64],
     list: &[u64],
     count: usize,
     joined: &mut [u32],
@@ -67,25 +67,25 @@ pub fn write_fused(
     sets: &mut [u32],
 ) -> ComplementAnswer
     requires { ⌜ Holds t (idsOf t) (rowsOf t) × ((k : ℕ) → k < t .columns → getD (t .ids) k 0 < 2 ^ 16) ⌝ }
-    requires { ⌜ ColumnsOf (rowsOf t) (t .columns) (now filled_rows) × SetsOf (rowsOf t) (now list) count × (count ≤ maxSets) × (count ≤ length (now list)) ⌝ }
+    requires { ⌜ ColumnsOf (rowsOf t) (t .columns) (now columns) × SetsOf (rowsOf t) (now list) count × (count ≤ maxSets) × (count ≤ length (now list)) ⌝ }
     requires { ⌜ (count * t .columns ≤ length (now joined)) × (count ≤ length (now order)) × (count ≤ length (now places)) ⌝ }
     ensures answers { λ r. ⌜ complementSays r ≡ fusedOutcome (idsOf t) (rowsOf t) (length (now (table .entry))) (length (now (sets .entry))) ⌝ }
     ensures writes { λ r. ⌜ now (table .exit) ≡ afterwards (complementSays r) (imageOf (idsOf t) (fusedRows (rowsOf t))) (now (table .entry)) ⌝ }
     ensures lists { λ r. ⌜ now (sets .exit) ≡ afterwards (complementSays r) (setList (rowsOf t)) (now (sets .entry)) ⌝ }
 {
-    let columns = t.columns;
+    let width = t.columns;
     let rows = fuse_rows(
         &t.cells,
         t.rows,
+        width,
         columns,
-        filled_rows,
         list,
         count,
         joined,
         order,
         places,
     );
-    let words = 1 + columns + rows * columns;
+    let words = 1 + width + rows * width;
     if table.len() < words {
         return ComplementAnswer::Refused {
             number: 10,
@@ -99,7 +99,7 @@ pub fn write_fused(
             table: 2,
         };
     }
-    let filled = write_table(table, &t.ids, columns, joined, order, rows);
+    let filled = write_table(table, &t.ids, width, joined, order, rows);
     fusing::write_sets(sets, list, places, count);
     ComplementAnswer::Done {
         rows,
@@ -113,14 +113,14 @@ pub fn write_fused(
 // Lends lists for joined rows: short ones where the sets are few, because to clear the long ones would take longer than the rest of the call.
 pub fn fuse_sets(
     t: Table,
-    filled_rows: &[u64],
+    columns: &[u64],
     list: &[u64],
     count: usize,
     table: &mut [u32],
     sets: &mut [u32],
 ) -> ComplementAnswer
     requires { ⌜ Holds t (idsOf t) (rowsOf t) × ((k : ℕ) → k < t .columns → getD (t .ids) k 0 < 2 ^ 16) ⌝ }
-    requires { ⌜ ColumnsOf (rowsOf t) (t .columns) (now filled_rows) × SetsOf (rowsOf t) (now list) count × (count ≤ maxSets) × (count ≤ length (now list)) ⌝ }
+    requires { ⌜ ColumnsOf (rowsOf t) (t .columns) (now columns) × SetsOf (rowsOf t) (now list) count × (count ≤ maxSets) × (count ≤ length (now list)) ⌝ }
     ensures answers { λ r. ⌜ complementSays r ≡ fusedOutcome (idsOf t) (rowsOf t) (length (now (table .entry))) (length (now (sets .entry))) ⌝ }
     ensures writes { λ r. ⌜ now (table .exit) ≡ afterwards (complementSays r) (imageOf (idsOf t) (fusedRows (rowsOf t))) (now (table .entry)) ⌝ }
     ensures lists { λ r. ⌜ now (sets .exit) ≡ afterwards (complementSays r) (setList (rowsOf t)) (now (sets .entry)) ⌝ }
@@ -131,7 +131,7 @@ pub fn fuse_sets(
         let mut places = [0u32; 64];
         return write_fused(
             t,
-            filled_rows,
+            columns,
             list,
             count,
             &mut joined,
@@ -146,7 +146,7 @@ pub fn fuse_sets(
     let mut places = [0u32; 1024];
     write_fused(
         t,
-        filled_rows,
+        columns,
         list,
         count,
         &mut joined,
@@ -177,18 +177,18 @@ pub fn complement_union(
             table: checks.table,
         };
     }
-    let columns = checks.found.count;
-    let mut t = Table::new(first_words(&checks.found.ids, columns), columns);
-    t.rows = union_rows(a, b, &checks.found.ids, columns, &mut t.cells);
-    let mut filled_rows = [0u64; 16];
-    fusing::fill_columns(&t.cells, t.rows, t.columns, &mut filled_rows);
+    let width = checks.found.count;
+    let mut t = Table::new(first_words(&checks.found.ids, width), width);
+    t.rows = union_rows(a, b, &checks.found.ids, width, &mut t.cells);
+    let mut columns = [0u64; 16];
+    fusing::fill_columns(&t.cells, t.rows, t.columns, &mut columns);
     let mut list = [0u64; 1025];
-    let count = list_sets(&t.cells, t.rows, t.columns, &filled_rows, &mut list);
+    let count = list_sets(&t.cells, t.rows, t.columns, &columns, &mut list);
     if 1024 < count {
         return ComplementAnswer::Refused {
             number: 9,
             table: 2,
         };
     }
-    fuse_sets(t, &filled_rows, &list, count, table, sets)
+    fuse_sets(t, &columns, &list, count, table, sets)
 }
