@@ -96,13 +96,14 @@ NarrowedTo rows found c now =
 pub narrowed-none : (rows : List (List ℕ)) (found : List ℕ) → NarrowedTo rows found 0 found
 narrowed-none rows found j k h g = refl
 
--- a filled cell x beside y, and an empty cell
+-- a row that is filled in a column agrees there with its group and with the rows that are empty
 beside : (e g : Bool) → ((g && e) || not g) ≡ (e || false || not g)
 beside true true = refl
 beside true false = refl
 beside false true = refl
 beside false false = refl
 
+-- a row that is empty there agrees with each
 alone : (e b g : Bool) → b ≡ (b && (e || true || not g))
 alone true true g = refl
 alone true false g = refl

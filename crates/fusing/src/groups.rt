@@ -6,7 +6,7 @@ ghost use Rattle.cliques.specs.Bits.{has, Inside};
 ghost use Rattle.fusing.specs.Columns.{Reach};
 ghost use Rattle.fusing.specs.Groups.{cellIn, LeaderOf, Groups};
 
-// The first of the rows that has the cell in column c; j where none has.
+// A row of the set that has the cell in column c, the first; j where none has.
 fn leader(cells: &[u32], width: usize, c: usize, cell: u32, rows: u64, j: usize) -> usize
     requires { ⌜ Reach width (now cells) c rows × (has rows j ≡ false) ⌝ }
     ensures { λ r. ⌜ LeaderOf (cellIn width (now (cells .entry)) c) cell rows j r ⌝ }
