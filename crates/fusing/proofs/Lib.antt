@@ -1,11 +1,14 @@
 -- Laws of the graph of T, of joined rows and of the set list.
 pub mod Lists
 pub mod Parts
-pub mod Agreeing
-pub mod Columns
+pub mod Words
+pub mod Rests
+pub mod FilledRows
+pub mod Grouping
 pub mod Apart
-pub mod Candidates
-pub mod Seeing
+pub mod Crossing
+pub mod Agreeing
+pub mod Narrowing
 pub mod Neighbours
 pub mod Picks
 pub mod Joins

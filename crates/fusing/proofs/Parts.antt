@@ -2,7 +2,6 @@
 use mathlib.Core.Path.{_≡_, _∙_, ap}
 use mathlib.Core.List.{List}
 use Prim.Native.Nat.{ℕ, _+_, _-_, _*_, _<_, _≤_}
-use native.Mathlib.Nat.{add-mul, one-mul}
 use native.Mathlib.Omega.{arith}
 use lib.ListN.{length, take, drop, length-drop}
 use lib.Seq.{length-take-le}
@@ -13,13 +12,13 @@ module _ (c n i : ℕ) (w : List ℕ) (fits : n * c ≤ length w) (more : i < n)
   pub row-within : i * c + c ≤ length w
   row-within = omega (arith, row-fits c n i more)
 
+  pub row-length : length (rowAt c w i) ≡ c
+  row-length = length-take-le c (drop (i * c) w) (omega (arith, length-drop (i * c) w, row-within))
+
   -- the row as a part that starts at its first word
   module _ (at : ℕ) (here : at ≡ i * c) where
     pub part-is : take (at + c - at) (drop at w) ≡ rowAt c w i
     part-is = part-row c at w ∙ ap (λ (k : ℕ). take c (drop k w)) here
 
     pub part-length : length (take (at + c - at) (drop at w)) ≡ c
-    part-length = ap length part-is ∙ length-take-le c (drop (i * c) w) (omega (arith, length-drop (i * c) w, row-within))
-
-pub rows-within : (c n i : ℕ) (w : List ℕ) → n * c ≤ length w → i < n → (i + 1) * c ≤ length w
-rows-within c n i w fits more = omega (arith, row-fits c n i more, add-mul i 1 c, one-mul c)
+    part-length = ap length part-is ∙ row-length

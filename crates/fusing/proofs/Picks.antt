@@ -24,8 +24,9 @@ use Rattle.definitions.proofs.Joined.{members-are, members-agree, joined-some, 
 use Rattle.lists.proofs.Flat.{rows-length, rows-at, rows-wide}
 use Rattle.cliques.specs.Bits.{has, both, lowest}
 use Rattle.cliques.proofs.Bits.{Lowest, has-both, has-none, has-bits, lowest-one, trailing-lowest, is-lowest}
-use Rattle.fusing.specs.Join.{filledIn, ColumnsOf, pickCell, pickFrom}
-use Rattle.fusing.proofs.Columns.{cell-at, filled-has}
+use Rattle.fusing.specs.Columns.{filledIn, ColumnsOf}
+use Rattle.fusing.specs.Join.{pickCell, pickFrom}
+use Rattle.fusing.proofs.FilledRows.{cell-at, filled-has}
 
 -- ---- the cell of the first row of a set
 

@@ -1,20 +1,49 @@
--- The graph of T: a word for each row, whose bit k says that row k complements it.
+-- The graph of T: a word for each row, whose bit k says that row k complements it. It is found in two steps: rows that cross, and of these
+-- the ones that agree.
 use mathlib.Core.Path.{_≡_}
-use mathlib.Core.List.{List, map}
-use Prim.Native.Nat.{ℕ, _<_}
-use lib.ListN.{length}
-use Rattle.definitions.specs.ComplementUnion.{complement, complementAt}
-use Rattle.definitions.specs.SetList.{bits}
+use mathlib.Core.Bool.{true, false, not, _&&_, _||_}
+use mathlib.Core.List.{List, []}
+use Prim.Native.Nat.{ℕ, _≤_, _<_}
+use lib.ListN.{length, getD}
+use Rattle.definitions.specs.Limits.{maxUnionRows}
+use Rattle.definitions.specs.ComplementUnion.{agree, complement, complementAt}
+use Rattle.cliques.specs.Bits.{has}
 use Rattle.cliques.specs.Graph.{near, Graph}
-
--- the rows that complement a row, as a set of positions
-unfoldable pub nearTo : List (List ℕ) → List ℕ → ℕ
-nearTo rows s = bits (map (complement s) rows)
-
-unfoldable pub graphWords : List (List ℕ) → List ℕ
-graphWords rows = map (nearTo rows) rows
+use Rattle.fusing.specs.Columns.{ColumnsOf}
 
 -- the words begin with the graph of these rows
 pub record GraphOf (rows : List (List ℕ)) (neighbours : List ℕ) : Type 0 where
   pub graph : Graph neighbours (length rows)
   pub nears : (j k : ℕ) → j < length rows → k < length rows → near neighbours j k ≡ complementAt rows j k
+
+-- ---- the rows that cross a row
+
+-- rows of width cells, and the columns' words that hold those that are filled there
+pub record Seen (rows : List (List ℕ)) (width : ℕ) (columns : List ℕ) : Type 0 where
+  pub few : length rows ≤ maxUnionRows
+  pub wide : (k : ℕ) → k < length rows → length (getD rows k []) ≡ width
+  pub filled : ColumnsOf rows width columns
+
+-- those of the set that agree with a row are the rows that complement it
+abbrev pub CrossingOf : List (List ℕ) → List ℕ → ℕ → Type 0
+CrossingOf rows row set = (k : ℕ) → k < length rows → complement row (getD rows k []) ≡ (has set k && agree row (getD rows k []))
+
+-- the same of all rows with these columns
+abbrev pub Crossing : List ℕ → List ℕ → ℕ → Type 0
+Crossing row columns set = (rows : List (List ℕ)) → Seen rows (length row) columns → CrossingOf rows row set
+
+-- the word of each row holds the rows that cross it
+pub record CrossingRows (rows : List (List ℕ)) (neighbours : List ℕ) : Type 0 where
+  pub each : (j : ℕ) → j < length rows → CrossingOf rows (getD rows j []) (getD neighbours j 0)
+
+-- ---- the rows that agree with a row
+
+-- a row that is filled in a column keeps the neighbours of its group there, and those that are not filled; another row keeps its word
+pub record NarrowedBy (filled : ℕ) (leaders equal found neighbours : List ℕ) : Type 0 where
+  pub held : (j k : ℕ) → has filled j ≡ true → k < maxUnionRows
+      → near neighbours j k ≡ (near found j k && (has (getD equal (getD leaders j 0) 0) k || not (has filled k)))
+  pub others : (j : ℕ) → has filled j ≡ false → getD neighbours j 0 ≡ getD found j 0
+
+-- each row keeps the neighbours that agree with it
+pub record Narrowed (rows : List (List ℕ)) (found neighbours : List ℕ) : Type 0 where
+  pub agrees : (j k : ℕ) → j < length rows → k < length rows → near neighbours j k ≡ (near found j k && agree (getD rows j []) (getD rows k []))

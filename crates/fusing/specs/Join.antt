@@ -1,27 +1,11 @@
 -- The joined rows of sets that are numbers: bit k of a set marks row k.
-use mathlib.Core.Path.{_≡_}
-use mathlib.Core.Bool.{true, cond}
-use mathlib.Core.List.{List, [], _∷_, map}
-use Prim.Native.Nat.{ℕ, suc, _+_, _*_, _≤_, _<_}
+use mathlib.Core.Bool.{cond}
+use mathlib.Core.List.{List, [], _∷_}
+use Prim.Native.Nat.{ℕ, suc, _+_, _*_}
 use lib.Bits.{bitAnd}
 use lib.Dec.{eqb}
-use lib.ListN.{length, getD}
-use Rattle.definitions.specs.Word.{isFilled}
-use Rattle.definitions.specs.SetList.{bits}
-use Rattle.cliques.specs.Bits.{has, lowest}
-
--- the rows that are filled in a column, as a set
-unfoldable pub filledIn : List (List ℕ) → ℕ → ℕ
-filledIn rows column = bits (map (λ r. isFilled (getD r column 0)) rows)
-
--- a word for each of the first columns: the rows that are filled there
-pub record ColumnsOf (rows : List (List ℕ)) (width : ℕ) (columns : List ℕ) : Type 0 where
-  pub size : width ≤ length columns
-  pub marks : (c : ℕ) → c < width → getD columns c 0 ≡ filledIn rows c
-
--- the cells of the rows that the words hold are there
-abbrev pub Within : ℕ → List ℕ → List ℕ → Type 0
-Within width columns cells = (c k : ℕ) → c < width → has (getD columns c 0) k ≡ true → k * width + c < length cells
+use lib.ListN.{getD}
+use Rattle.cliques.specs.Bits.{lowest}
 
 -- the cell in a column of the first row of the set; empty where the set is
 unfoldable pub pickCell : ℕ → List ℕ → ℕ → ℕ → ℕ

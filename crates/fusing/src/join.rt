@@ -1,50 +1,19 @@
 // The joined rows of sets. In each column the first member that is filled there has the number, so that a joined row takes one step a
 // column, however many members there are.
-use crate::graph::mark;
 ghost use mathlib.Core.Path.{_≡_};
-ghost use mathlib.Core.Bool.{true};
 ghost use mathlib.Core.List.{map};
-ghost use Prim.Native.Nat.{ℕ, _+_, _*_, _≤_, _<_};
+ghost use Prim.Native.Nat.{_+_, _*_, _≤_};
 ghost use lib.ListN.{length, take};
 ghost use lib.Seq.{paste};
-ghost use Rattle.definitions.specs.Limits.{maxColumns, maxUnionRows};
 ghost use Rattle.definitions.specs.Image.{rowsIn};
 ghost use Rattle.definitions.specs.ComplementUnion.{joined, unionSets};
 ghost use Rattle.definitions.specs.SetList.{bits};
-ghost use Rattle.cliques.specs.Bits.{has};
-ghost use Rattle.fusing.specs.Join.{filledIn, ColumnsOf, Within, pickCell, pickFrom};
-
-// The rows that are filled in a column, as a set.
-fn filled_rows(cells: &[u32], n: usize, width: usize, column: usize) -> u64
-    requires { ⌜ (n ≤ maxUnionRows) × (n * width ≤ length (now cells)) × (column < width) ⌝ }
-    ensures { λ r. ⌜ r ≡ filledIn (rowsIn width n (now (cells .entry))) column ⌝ }
-{
-    let mut rows = 0;
-    let mut k = 0;
-    let mut at = column;
-    while k < n {
-        rows = rows | (mark(cells[at] != 0) << k);
-        at += width;
-        k += 1;
-    }
-    rows
-}
-
-// Writes, for each column, the rows that are filled there.
-fn fill_columns(cells: &[u32], n: usize, width: usize, columns: &mut [u64])
-    requires { ⌜ (n ≤ maxUnionRows) × (n * width ≤ length (now cells)) × (width ≤ length (now columns)) ⌝ }
-    ensures { λ r. ⌜ ColumnsOf (rowsIn width n (now (cells .entry))) width (now (columns .exit)) ⌝ }
-{
-    let mut i = 0;
-    while i < width {
-        columns[i] = filled_rows(cells, n, width, i);
-        i += 1;
-    }
-}
+ghost use Rattle.fusing.specs.Columns.{ColumnsOf, Reach, Within};
+ghost use Rattle.fusing.specs.Join.{pickCell, pickFrom};
 
 // The cell in a column of the first row of the set; empty where the set is.
 fn pick_cell(cells: &[u32], width: usize, column: usize, set: u64) -> u32
-    requires { ⌜ ((k : ℕ) → has set k ≡ true → k * width + column < length (now cells)) ⌝ }
+    requires { ⌜ Reach width (now cells) column set ⌝ }
     ensures { λ r. ⌜ r ≡ pickCell width (now (cells .entry)) column set ⌝ }
 {
     if set == 0 {
@@ -67,16 +36,22 @@ fn join_set(cells: &[u32], columns: &[u64], width: usize, set: u64, out: &mut [u
 }
 
 // Writes the joined rows of the first count sets, which are the maximal complementing sets of the first n rows.
-pub fn join_sets(cells: &[u32], n: usize, width: usize, sets: &[u64], count: usize, out: &mut [u32])
-    requires { ⌜ (n ≤ maxUnionRows) × (width ≤ maxColumns) × (n * width ≤ length (now cells)) × (count ≤ length (now sets)) × (take count (now sets) ≡ map bits (unionSets (rowsIn width n (now cells)))) × (count * width ≤ length (now out)) ⌝ }
+pub fn join_sets(
+    cells: &[u32],
+    n: usize,
+    width: usize,
+    columns: &[u64],
+    sets: &[u64],
+    count: usize,
+    out: &mut [u32],
+)
+    requires { ⌜ (n * width ≤ length (now cells)) × ColumnsOf (rowsIn width n (now cells)) width (now columns) × (count ≤ length (now sets)) × (take count (now sets) ≡ map bits (unionSets (rowsIn width n (now cells)))) × (count * width ≤ length (now out)) ⌝ }
     ensures { λ r. ⌜ rowsIn width count (now (out .exit)) ≡ map (joined (rowsIn width n (now (cells .entry)))) (unionSets (rowsIn width n (now (cells .entry)))) ⌝ }
 {
-    let mut columns = [0u64; 16];
-    fill_columns(cells, n, width, &mut columns);
     let mut k = 0;
     let mut at = 0;
     while k < count {
-        join_set(cells, &columns, width, sets[k], out, at);
+        join_set(cells, columns, width, sets[k], out, at);
         at += width;
         k += 1;
     }

@@ -3,7 +3,7 @@ use mathlib.Core.Path.{_≡_, sym, _∙_, ap₂}
 use mathlib.Core.Bool.{Bool, true, false, cond}
 use mathlib.Core.List.{List, [], _∷_, _++_}
 use Prim.Native.Nat.{ℕ, _+_, _*_, _%_, _^_, _<_}
-use native.Mathlib.Nat.{pow-suc, zero-mul}
+use native.Mathlib.Nat.{pow-suc}
 use native.Mathlib.Omega.{arith}
 use lib.ListN.{length}
 use lib.Bits.{bitOr, or-shifted-r}
@@ -37,7 +37,3 @@ mark-next width s m w b k h e ew eb =
     ap₂ bitOr ew (shl-exact 1 k width small (omega arith))
     ∙ or-shifted-r b k (bits s) at
     ∙ rw (eb, ← e) (sym (bits-snoc s m))
-
--- a position that isn't held changes nothing
-pub bits-none : (s : List Bool) → bits (s ++ (false ∷ [])) ≡ bits s
-bits-none s = bits-snoc s false ∙ omega (arith, zero-mul (2 ^ length s))

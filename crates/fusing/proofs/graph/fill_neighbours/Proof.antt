@@ -1,30 +1,30 @@
--- `fill_neighbours` meets its contract: at first no row is marked.
+-- `fill_neighbours` meets its contract: rows that cross and agree complement each other.
 use borrow.Author.Needs.{needs}
-use Rattle.fusing.proofs.Seeing.{columns-none}
+use native.Mathlib.Omega.{arith}
+use Rattle.definitions.specs.Image.{rowsIn}
+use Rattle.lists.proofs.Flat.{rows-length}
+use Rattle.fusing.proofs.Neighbours.{graph-of}
 use Rattle.fusing.proofs.graph.fill_neighbours.Statement.{statement}
 use Rattle.fusing.proofs.graph.fill_neighbours.Tie as tie
 
-slice-aggregate-add-rows : tie.Need-slice-aggregate-add-rows
-slice-aggregate-add-rows c = search needs
+cross-rows-requires : tie.Need-cross-rows-requires
+cross-rows-requires c κs = search needs
 
-slice-aggregate-add-rows-2 : tie.Need-slice-aggregate-add-rows-2
-slice-aggregate-add-rows-2 c = search needs
-
-add-rows-requires : tie.Need-add-rows-requires
-add-rows-requires c κs = let s = c .before .before .before .before .before in (s .pre .0, s .pre .1, s .pre .2, search needs, columns-none (s .args .width) (s .pre .1), s .pre .3)
+narrow-columns-requires : tie.Need-narrow-columns-requires
+narrow-columns-requires c κs = search needs
 
 same-length : tie.Need-same-length
 same-length c = search needs
 
 returns : tie.Need-returns
-returns c = search needs
+returns c =
+    let s = c .before .before .before .before .before .before .before .before .before .before .before in
+    let a = s .args in
+    let x = c .before .before .before .before .before .before .cross-rows in
+    let n = c .before .before .narrow-columns in
+    graph-of (rowsIn (a .width) (a .n) (a .cells .now)) _ _ (x .ensures) (n .ensures)
+    (omega (arith, rows-length (a .width) (a .n) (a .cells .now), n .kept .1 .1 .1 .1 .0, x .kept .1 .1 .1 .1 .0, s .pre .3))
 
 pub fill-neighbours-spec : {M : Type 1} → statement M
 fill-neighbours-spec =
-    tie.close
-    (tie.spec
-    slice-aggregate-add-rows
-    slice-aggregate-add-rows-2
-    add-rows-requires
-    same-length
-    returns)
+    tie.close (tie.spec cross-rows-requires narrow-columns-requires same-length returns)

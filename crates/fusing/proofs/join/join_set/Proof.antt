@@ -31,7 +31,7 @@ shared-slice-read-pick-cell c = search needs
 
 pick-cell-requires : tie.Need-pick-cell-requires Inv-loop μ-loop
 unfolding both
-pick-cell-requires c κs = let s = c .before .before .before .before .before .before in let i = c .before .before .loop .i in λ k h. s .pre .1 i k (search needs) (both-r (s .args .set) (getD (s .args .columns .now) i 0) k h)
+pick-cell-requires c κs = let s = c .before .before .before .before .before .before in let i = c .before .before .loop .i in λ k h. s .pre .1 i (search needs) k (both-r (s .args .set) (getD (s .args .columns .now) i 0) k h)
 
 add-out : tie.Need-add-out Inv-loop μ-loop
 add-out c = omega (arith, c .before .before .before .before .before .before .before .pre .2)

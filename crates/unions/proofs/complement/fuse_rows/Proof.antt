@@ -11,22 +11,22 @@ use Rattle.unions.proofs.complement.fuse_rows.Tie as tie
 
 join-sets-requires : tie.Need-join-sets-requires
 join-sets-requires c κs =
-    let s = c .before .before .before .before .before .before in
+    let s = c .before .before .before .before .before .before .before in
     let p = s .pre .0 in
-    (p .0, p .1, p .2, p .4, p .5, s .pre .1 .0)
+    (p .0, p .1, p .3, p .4, s .pre .1 .0)
 
 order-rows-requires : tie.Need-order-rows-requires
 order-rows-requires c κs =
-    let s = c .before .before .before .before .before .before .before .before .before .before .before .before in
+    let s = c .before .before .before .before .before .before .before .before .before .before .before .before .before in
     let p = s .pre .0 in
-    (omega (arith, p .3), s .pre .1 .1, s .pre .1 .2, omega (arith, s .pre .1 .0, c .before .before .before .before .joined .given))
+    (omega (arith, p .2), s .pre .1 .1, s .pre .1 .2, omega (arith, s .pre .1 .0, c .before .before .before .before .joined .given))
 
 places-of-requires : tie.Need-places-of-requires
 places-of-requires c κs =
-    let s = c .before .before .before .before .before .before .before .before .before .before .before .before .before .before .before .before .before .before .before .before in
+    let s = c .before .before .before .before .before .before .before .before .before .before .before .before .before .before .before .before .before .before .before .before .before in
     let p = s .pre .0 in
     let o = c .before .before .before .before .before .before .before .order-rows .ensures in
-    (omega (arith, s .pre .1 .0, c .before .before .before .before .before .before .before .before .before .before .before .before .joined .given), omega (arith, o .0, p .3), omega (arith, o .0, s .pre .1 .1, c .before .before .before .before .before .before .order .given), o .1, omega (arith, s .pre .1 .2, c .before .before .before .before .places .given))
+    (omega (arith, s .pre .1 .0, c .before .before .before .before .before .before .before .before .before .before .before .before .joined .given), omega (arith, o .0, p .2), omega (arith, o .0, s .pre .1 .1, c .before .before .before .before .before .before .order .given), o .1, omega (arith, s .pre .1 .2, c .before .before .before .before .places .given))
 
 same-length : tie.Need-same-length
 same-length c = search needs
@@ -39,7 +39,7 @@ same-length-3 c = search needs
 
 returns : tie.Need-returns
 returns c =
-    let s = c .before .before .before .before .before .before .before .before .before .before .before .before .before .before .before .before .before .before .before .before .before .before .before in
+    let s = c .before .before .before .before .before .before .before .before .before .before .before .before .before .before .before .before .before .before .before .before .before .before .before .before in
     let p = s .pre .0 in
     let o = c .before .before .before .before .before .before .before .before .before .before .order-rows .ensures in
     (o .0, omega (arith, o .0, s .pre .1 .1, c .before .before .before .before .before .before .before .before .before .order .given), fused-of (rowsIn (s .args .width) (s .args .n) (s .args .cells .now)) (s .args .width) (s .args .count) _ _ _ _ (omega (arith, s .pre .1 .0, c .before .before .before .before .before .before .before .before .before .before .before .before .before .before .before .joined .given)) (c .before .before .before .before .before .before .before .before .before .before .before .before .before .before .before .before .join-sets .ensures) (o .1) (c .before .before .places-of .ensures))

@@ -16,8 +16,8 @@ slice-aggregate-write-fused-3 c = search needs
 
 write-fused-requires : tie.Need-write-fused-requires
 write-fused-requires c κs =
-    let s = c .before .before .before .before .before .before .before .before .before in
-    let few = s .pre .1 .1 in
+    let s = c .before .before .before .before .before .before .before .before .before .before in
+    let few = s .pre .1 .2 in
     let g = mul-le-mul (c .before .before .before .before .before .if1 .taken) (s .pre .0 .0 .few-columns) in
     (s .pre .0, (s .pre .1, (omega arith, search needs, search needs)))
 
@@ -41,8 +41,8 @@ slice-aggregate-write-fused-6 c = search needs
 
 write-fused-requires-2 : tie.Need-write-fused-requires-2
 write-fused-requires-2 c κs =
-    let s = c .before .before .before .before .before .before .before .before .before in
-    let few = s .pre .1 .1 in
+    let s = c .before .before .before .before .before .before .before .before .before .before in
+    let few = s .pre .1 .2 in
     let g = mul-le-mul few (s .pre .0 .0 .few-columns) in
     (s .pre .0, (s .pre .1, (omega arith, search needs, search needs)))
 

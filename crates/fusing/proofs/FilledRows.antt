@@ -1,11 +1,11 @@
 -- The rows that are filled in a column, row by row and column by column. Assumes nothing.
-use mathlib.Core.Path.{_≡_, refl, sym, _∙_, ap, ap₂}
+use mathlib.Core.Path.{_≡_, refl, sym, _∙_, ap, ap₂, subst}
 use mathlib.Core.Bool.{Bool, true, cond}
 use mathlib.Core.List.{List, [], _∷_, _++_, map, map-append}
-use Prim.Native.Nat.{ℕ, _+_, _*_, _%_, _^_, _<_, _≤_}
+use Prim.Native.Nat.{ℕ, _+_, _-_, _*_, _%_, _^_, _<_, _≤_}
 use native.Mathlib.Omega.{arith}
 use lib.Bits.{bitOr}
-use lib.ListN.{length, getD, set, drop, length-set, length-map}
+use lib.ListN.{length, getD, set, replicate, take, drop, length-set, length-map, length-replicate, getD-replicate}
 use lib.Seq.{getD-take, getD-drop, getD-set-same, getD-set-other}
 use borrow.Author.Count.{below-more}
 use Rattle.definitions.specs.Word.{isFilled}
@@ -18,15 +18,15 @@ use Rattle.cliques.specs.Bits.{has}
 use Rattle.cliques.proofs.Bits.{has-bits}
 use Rattle.patterns.proofs.Digits.{mark-next}
 use Rattle.rows.specs.Numbers.{rowAt}
-use Rattle.fusing.specs.Join.{filledIn, ColumnsOf, Within}
-use Rattle.fusing.specs.Candidates.{FilledRow}
+use Rattle.fusing.specs.Columns.{filledIn, ColumnsOf, FilledRow, Within}
 use Rattle.fusing.proofs.Lists.{map-at, rows-snoc}
+use Rattle.fusing.proofs.Parts.{part-is, part-length}
 
 -- the cell i of the row k
 pub cell-at : (c k i : ℕ) (w : List ℕ) → i < c → getD (rowAt c w k) i 0 ≡ getD w (k * c + i) 0
 cell-at c k i w h = getD-take c (drop (k * c) w) i 0 h ∙ getD-drop (k * c) w i 0
 
-pub filled-none : (column : ℕ) → filledIn [] column ≡ 0
+filled-none : (column : ℕ) → filledIn [] column ≡ 0
 unfolding filledIn bits
 filled-none column = refl
 
@@ -38,22 +38,6 @@ filled-snoc rows row column j word b size h e eb =
     let f : List ℕ → Bool = λ r. isFilled (getD r column 0) in
     mark-next 64 (map f rows) (f row) word b j h (length-map rows f ∙ size) e eb
     ∙ ap bits (sym (map-append f rows (row ∷ [])))
-
--- the next row
-pub filled-turn : (c k column word b : ℕ) (w : List ℕ) → k < 64 → column < c → word ≡ filledIn (rowsIn c k w) column
-    → b ≡ cond (isFilled (getD w (k * c + column) 0)) 1 0 → bitOr word (b * 2 ^ k % 2 ^ 64) ≡ filledIn (rowsIn c (k + 1) w) column
-filled-turn c k column word b w h within e eb =
-    filled-snoc (rowsIn c k w) (rowAt c w k) column k word b (rows-length c k w) h e
-    (eb ∙ ap (λ (x : ℕ). cond (isFilled x) 1 0) (sym (cell-at c k column w within)))
-    ∙ ap (λ (r : List (List ℕ)). filledIn r column) (sym (rows-snoc c k w))
-
--- the next column
-pub columns-turn : (rows : List (List ℕ)) (columns : List ℕ) (i v : ℕ) → i < length columns → v ≡ filledIn rows i
-    → ((c : ℕ) → c < i → getD columns c 0 ≡ filledIn rows c) → (c : ℕ) → c < i + 1 → getD (set columns i v) c 0 ≡ filledIn rows c
-columns-turn rows columns i v h e f =
-    below-more (λ (c : ℕ). getD (set columns i v) c 0 ≡ filledIn rows c) i
-    (λ c g. getD-set-other columns i c v 0 (λ q. omega arith) ∙ f c g)
-    (getD-set-same columns i v 0 h ∙ e)
 
 -- a row that is filled in a column
 pub filled-has : (rows : List (List ℕ)) (column k : ℕ) → k < length rows → has (filledIn rows column) k ≡ isFilled (getD (getD rows k []) column 0)
@@ -70,7 +54,7 @@ filled-within rows column k h =
     omega (arith, holds-within (map f rows) k m, length-map rows f)
 
 pub columns-within : (c n : ℕ) (w columns : List ℕ) → n * c ≤ length w → ColumnsOf (rowsIn c n w) c columns → Within c columns w
-columns-within c n w columns fits o i k h g =
+columns-within c n w columns fits o i h k g =
     let l : k < n = omega (arith, filled-within (rowsIn c n w) i k (ap (λ (x : ℕ). has x k) (sym (o .marks i h)) ∙ g), rows-length c n w) in
     omega (arith, row-fits c n k l)
 
@@ -111,3 +95,22 @@ module _ (row : List ℕ) (j : ℕ) (found : List ℕ) where
               ∙ filled-snoc rows row i j (getD found i 0) (cond (isFilled (getD row i 0)) 1 0) size small (o .marks i h) refl;
         };
   }
+
+-- ---- the rows one after the other
+
+pub columns-none : (width : ℕ) → width ≤ 16 → ColumnsOf [] width (replicate 16 0)
+columns-none width h = record {
+  size = omega (arith, length-replicate {A = ℕ} 16 0);
+  marks = λ c g. getD-replicate 16 c 0 0 (omega arith) ∙ sym (filled-none c);
+}
+
+-- n rows of c cells stand in w, and the row j, from at on, is the next
+pub columns-more : (c n j at : ℕ) (w : List ℕ) → n * c ≤ length w → j < n → at ≡ j * c → (found columns : List ℕ)
+    → ColumnsOf (rowsIn c j w) c found → FilledRow (take (at + c - at) (drop at w)) j found columns → ColumnsOf (rowsIn c (j + 1) w) c columns
+columns-more c n j at w fits more here found columns o f =
+    let part : List ℕ = take (at + c - at) (drop at w) in
+    let long : length part ≡ c = part-length c n j w fits more at here in
+    subst (λ (r : List (List ℕ)). ColumnsOf r c columns)
+    (ap (λ (u : List ℕ). rowsIn c j w ++ (u ∷ [])) (part-is c n j w fits more at here) ∙ sym (rows-snoc c j w))
+    (subst (λ (k : ℕ). ColumnsOf (rowsIn c j w ++ (part ∷ [])) k columns) long
+    (f .more (rowsIn c j w) (rows-length c j w) (subst (λ (k : ℕ). ColumnsOf (rowsIn c j w) k found) (sym long) o)))

@@ -3,9 +3,9 @@ use borrow.Author.Needs.{needs}
 use Prim.Native.Nat.{_-_, _≤_}
 use native.Mathlib.Omega.{arith}
 use lib.ListN.{length}
-use Rattle.fusing.proofs.Columns.{FilledTo, filled-to-none, filled-to-turn, filled-to-end}
-use Rattle.fusing.proofs.graph.mark_columns.Statement.{statement}
-use Rattle.fusing.proofs.graph.mark_columns.Tie as tie
+use Rattle.fusing.proofs.FilledRows.{FilledTo, filled-to-none, filled-to-turn, filled-to-end}
+use Rattle.fusing.proofs.columns.mark_columns.Statement.{statement}
+use Rattle.fusing.proofs.columns.mark_columns.Tie as tie
 
 abbrev Inv-loop : tie.InvT-loop
 Inv-loop row j columns₀ c₀ columns c = (c ≤ length row) × FilledTo row j columns₀ c columns

@@ -1,0 +1,195 @@
+-- The rows that cross a row, column by column: what the words hold of each row. Assumes nothing.
+use mathlib.Core.Path.{_≡_, refl, sym, _∙_, ap, ap₂, subst}
+use mathlib.Core.Bool.{Bool, true, false, not, _&&_, _||_}
+use mathlib.Core.List.{List, []}
+use Prim.Native.Nat.{ℕ, _+_, _-_, _*_, _^_, _<_, _≤_}
+use native.Mathlib.Omega.{arith}
+use lib.Bits.{bitAnd, bitOr, and-le-l}
+use lib.ListN.{length, getD, take, drop, set as replace}
+use lib.Seq.{getD-set-same, getD-set-other}
+use borrow.Author.Count.{below-more}
+use Rattle.definitions.specs.Image.{rowsIn}
+use Rattle.definitions.specs.Word.{isFilled}
+use Rattle.definitions.specs.ComplementUnion.{agree, complement}
+use Rattle.definitions.proofs.Patterns.{only}
+use Rattle.lists.proofs.Walks.{next, end}
+use Rattle.lists.proofs.Flat.{rows-length, rows-at}
+use Rattle.cliques.specs.Bits.{has, both, rowsBelow}
+use Rattle.cliques.proofs.Bits.{has-both, has-or, has-none, below-in}
+use Rattle.patterns.specs.Marks.{blankOf}
+use Rattle.patterns.proofs.Marking.{has-blank, blank-fits}
+use Rattle.fusing.specs.Columns.{filledIn, ColumnsOf}
+use Rattle.fusing.specs.Graph.{Seen, CrossingOf, Crossing}
+use Rattle.fusing.proofs.Words.{has-lacked}
+use Rattle.fusing.proofs.Apart.{bothIn, complement-filled}
+use Rattle.fusing.proofs.FilledRows.{filled-has}
+use Rattle.fusing.proofs.Parts.{row-length, part-is, part-length}
+
+-- ---- one row t, of number k, and the row s: i columns are passed
+
+pub record Passed (s t : List ℕ) (k i shared above within : ℕ) : Type 0 where
+  pub shares : (has shared k || bothIn (drop i s) (drop i t)) ≡ bothIn s t
+  pub first : (not (has above k) || only (drop i s) (drop i t)) ≡ only s t
+  pub second : (not (has within k) || only (drop i t) (drop i s)) ≡ only t s
+
+share-case : (a x y b : Bool) → ((a || (y && not (not x))) || b) ≡ (a || ((x && y) || b))
+share-case true x y b = refl
+share-case false true true b = refl
+share-case false true false b = refl
+share-case false false true b = refl
+share-case false false false b = refl
+
+first-case : (a x y b : Bool) → (not (a && (y || not x)) || b) ≡ (not a || ((x && not y) || b))
+first-case false x y b = refl
+first-case true true true b = refl
+first-case true true false b = refl
+first-case true false true b = refl
+first-case true false false b = refl
+
+second-case : (a x y b : Bool) → (not (a && not (y && not x)) || b) ≡ (not a || ((y && not x) || b))
+second-case false x y b = refl
+second-case true true true b = refl
+second-case true true false b = refl
+second-case true false true b = refl
+second-case true false false b = refl
+
+none : (b : Bool) → (b || false) ≡ b
+none true = refl
+none false = refl
+
+told-case : (b x y g : Bool) → (x && (y && (b && g))) ≡ (((b && x) && y) && g)
+told-case true true true g = refl
+told-case true true false g = refl
+told-case true false y g = refl
+told-case false true true g = refl
+told-case false true false g = refl
+told-case false false y g = refl
+
+module _ (s t : List ℕ) (k : ℕ) (same : length s ≡ length t) (small : k < 64) where
+  pub passed-none : Passed s t k 0 0 18446744073709551615 18446744073709551615
+  unfolding rowsBelow
+  passed-none =
+      let all : has (rowsBelow 64) k ≡ true = below-in 64 k small in
+      record {
+        shares = ap (λ (b : Bool). b || bothIn s t) (has-none k);
+        first = ap (λ (b : Bool). not b || only s t) all;
+        second = ap (λ (b : Bool). not b || only t s) all;
+      }
+
+  -- the next column, whose words hold what the cells say
+  module _ (i shared above within : ℕ) (p : Passed s t k i shared above within) (filled empty : ℕ) (more : i < length s) (fits : filled < 2 ^ 64)
+      (fits-empty : empty < 2 ^ 64) (f : has filled k ≡ isFilled (getD t i 0)) (e : has empty k ≡ not (isFilled (getD s i 0))) where
+    shared-more : (has (bitOr shared (bitAnd filled (2 ^ 64 - 1 - empty))) k || bothIn (drop (i + 1) s) (drop (i + 1) t)) ≡ bothIn s t
+    unfolding both bothIn
+    shared-more =
+        let rest = bothIn (drop (i + 1) s) (drop (i + 1) t) in
+        ap (λ (b : Bool). b || rest)
+        (has-or shared (bitAnd filled (2 ^ 64 - 1 - empty)) k
+        ∙ ap (λ (b : Bool). has shared k || b)
+        (has-both filled (2 ^ 64 - 1 - empty) k ∙ ap₂ (λ (a b : Bool). a && b) f (has-lacked 64 empty k fits-empty small ∙ ap not e)))
+        ∙ share-case (has shared k) (isFilled (getD s i 0)) (isFilled (getD t i 0)) rest
+        ∙ ap (λ (b : Bool). has shared k || b) (sym (ap₂ bothIn (next 0 s i more) (next 0 t i (omega arith))))
+        ∙ p .shares
+
+    first-more : (not (has (bitAnd above (bitOr filled empty)) k) || only (drop (i + 1) s) (drop (i + 1) t)) ≡ only s t
+    unfolding both only
+    first-more =
+        let rest = only (drop (i + 1) s) (drop (i + 1) t) in
+        ap (λ (b : Bool). not b || rest)
+        (has-both above (bitOr filled empty) k
+        ∙ ap (λ (b : Bool). has above k && b) (has-or filled empty k ∙ ap₂ (λ (a b : Bool). a || b) f e))
+        ∙ first-case (has above k) (isFilled (getD s i 0)) (isFilled (getD t i 0)) rest
+        ∙ ap (λ (b : Bool). not (has above k) || b) (sym (ap₂ only (next 0 s i more) (next 0 t i (omega arith))))
+        ∙ p .first
+
+    second-more : (not (has (bitAnd within (2 ^ 64 - 1 - bitAnd filled empty)) k) || only (drop (i + 1) t) (drop (i + 1) s)) ≡ only t s
+    unfolding both only
+    second-more =
+        let rest = only (drop (i + 1) t) (drop (i + 1) s) in
+        let fit : bitAnd filled empty < 2 ^ 64 = omega (arith, and-le-l filled empty) in
+        ap (λ (b : Bool). not b || rest)
+        (has-both within (2 ^ 64 - 1 - bitAnd filled empty) k
+        ∙ ap (λ (b : Bool). has within k && b)
+        (has-lacked 64 (bitAnd filled empty) k fit small ∙ ap not (has-both filled empty k ∙ ap₂ (λ (a b : Bool). a && b) f e)))
+        ∙ second-case (has within k) (isFilled (getD s i 0)) (isFilled (getD t i 0)) rest
+        ∙ ap (λ (b : Bool). not (has within k) || b) (sym (ap₂ only (next 0 t i (omega arith)) (next 0 s i more)))
+        ∙ p .second
+
+    pub passed-more : Passed s t k (i + 1) (bitOr shared (bitAnd filled (2 ^ 64 - 1 - empty))) (bitAnd above (bitOr filled empty))
+        (bitAnd within (2 ^ 64 - 1 - bitAnd filled empty))
+    passed-more = record { shares = shared-more; first = first-more; second = second-more }
+
+  -- all columns are passed
+  passed-told : (i shared above within : ℕ) → length s ≤ i → above < 2 ^ 64 → within < 2 ^ 64 → Passed s t k i shared above within
+      → complement s t ≡ (has (bitAnd (bitAnd shared (2 ^ 64 - 1 - above)) (2 ^ 64 - 1 - within)) k && agree s t)
+  unfolding both bothIn only
+  passed-told i shared above within all fa fw p =
+      let es : drop i s ≡ [] = end s i all in
+      let et : drop i t ≡ [] = end t i (omega arith) in
+      let sh : has shared k ≡ bothIn s t = sym (ap₂ (λ (u v : List ℕ). has shared k || bothIn u v) es et ∙ none (has shared k)) ∙ p .shares in
+      let fi : not (has above k) ≡ only s t = sym (ap₂ (λ (u v : List ℕ). not (has above k) || only u v) es et ∙ none (not (has above k))) ∙ p .first in
+      let se : not (has within k) ≡ only t s = sym (ap₂ (λ (u v : List ℕ). not (has within k) || only u v) et es ∙ none (not (has within k))) ∙ p .second in
+      let two : has (bitAnd shared (2 ^ 64 - 1 - above)) k ≡ (bothIn s t && only s t) =
+      has-both shared (2 ^ 64 - 1 - above) k ∙ ap₂ (λ (a b : Bool). a && b) sh (has-lacked 64 above k fa small ∙ fi) in
+      let three : has (bitAnd (bitAnd shared (2 ^ 64 - 1 - above)) (2 ^ 64 - 1 - within)) k ≡ ((bothIn s t && only s t) && only t s) =
+      has-both (bitAnd shared (2 ^ 64 - 1 - above)) (2 ^ 64 - 1 - within) k ∙ ap₂ (λ (a b : Bool). a && b) two (has-lacked 64 within k fw small ∙ se) in
+      complement-filled s t same
+      ∙ told-case (bothIn s t) (only s t) (only t s) (agree s t)
+      ∙ ap (λ (b : Bool). b && agree s t) (sym three)
+
+-- ---- all rows with these columns at once
+
+-- i columns of the row are passed
+abbrev pub PassedTo : List ℕ → List ℕ → ℕ → ℕ → ℕ → ℕ → Type 0
+PassedTo row columns i shared above within =
+    (rows : List (List ℕ)) → Seen rows (length row) columns → (k : ℕ) → k < length rows → Passed row (getD rows k []) k i shared above within
+
+module _ (row columns : List ℕ) where
+  pub passed-start : PassedTo row columns 0 0 18446744073709551615 18446744073709551615
+  passed-start rows seen k h = passed-none row (getD rows k []) k (sym (seen .wide k h)) (omega (arith, seen .few))
+
+  module _ (i shared above within : ℕ) where
+    pub passed-turn : (filled empty : ℕ) → i < length row → filled < 2 ^ 64 → filled ≡ getD columns i 0 → empty ≡ blankOf (getD row i 0)
+        → PassedTo row columns i shared above within
+        → PassedTo row columns (i + 1) (bitOr shared (bitAnd filled (2 ^ 64 - 1 - empty))) (bitAnd above (bitOr filled empty))
+        (bitAnd within (2 ^ 64 - 1 - bitAnd filled empty))
+    passed-turn filled empty more fits ef ee inv rows seen k h =
+        let x = getD row i 0 in
+        let small : k < 64 = omega (arith, seen .few) in
+        let column : filled ≡ filledIn rows i = ef ∙ seen .filled .marks i more in
+        let fe : empty < 2 ^ 64 = rw ee (blank-fits x) in
+        passed-more row (getD rows k []) k (sym (seen .wide k h)) small i shared above within (inv rows seen k h) filled empty more fits fe
+        (ap (λ (w : ℕ). has w k) column ∙ filled-has rows i k h)
+        (ap (λ (w : ℕ). has w k) ee ∙ has-blank x k small)
+
+    pub passed-end : length row ≤ i → above < 2 ^ 64 → within < 2 ^ 64 → PassedTo row columns i shared above within
+        → Crossing row columns (bitAnd (bitAnd shared (2 ^ 64 - 1 - above)) (2 ^ 64 - 1 - within))
+    passed-end all fa fw inv rows seen k h =
+        passed-told row (getD rows k []) k (sym (seen .wide k h)) (omega (arith, seen .few)) i shared above within all fa fw (inv rows seen k h)
+
+-- ---- the rows one after the other
+
+pub rows-seen : (c n : ℕ) (w columns : List ℕ) → n ≤ 64 → n * c ≤ length w → ColumnsOf (rowsIn c n w) c columns → Seen (rowsIn c n w) c columns
+rows-seen c n w columns few fits o = record {
+  few = omega (arith, rows-length c n w);
+  wide = λ k h. let l : k < n = omega (arith, rows-length c n w) in ap length (rows-at c n k w l) ∙ row-length c n k w fits l;
+  filled = o;
+}
+
+-- the words of the first j rows hold the rows that cross them
+abbrev pub CrossingTo : List (List ℕ) → List ℕ → ℕ → Type 0
+CrossingTo rows neighbours j = (i : ℕ) → i < j → CrossingOf rows (getD rows i []) (getD neighbours i 0)
+
+-- n rows of c cells stand in w, and the row j, from at on, is the next
+pub crossing-turn : (c n j at : ℕ) (w columns neighbours : List ℕ) (set : ℕ) → Seen (rowsIn c n w) c columns → n * c ≤ length w → j < n → at ≡ j * c
+    → j < length neighbours → Crossing (take (at + c - at) (drop at w)) columns set → CrossingTo (rowsIn c n w) neighbours j
+    → CrossingTo (rowsIn c n w) (replace neighbours j set) (j + 1)
+crossing-turn c n j at w columns neighbours set seen fits more here room f inv =
+    let rows : List (List ℕ) = rowsIn c n w in
+    let long = part-length c n j w fits more at here in
+    let own : CrossingOf rows (getD rows j []) set =
+    subst (λ (r : List ℕ). CrossingOf rows r set) (part-is c n j w fits more at here ∙ sym (rows-at c n j w more))
+    (f rows (subst (λ (k : ℕ). Seen rows k columns) (sym long) seen)) in
+    below-more (λ (i : ℕ). CrossingOf rows (getD rows i []) (getD (replace neighbours j set) i 0)) j
+    (λ i h. subst (CrossingOf rows (getD rows i [])) (sym (getD-set-other neighbours j i set 0 (λ q. omega arith))) (inv i h))
+    (subst (CrossingOf rows (getD rows j [])) (sym (getD-set-same neighbours j set 0 room)) own)

@@ -1,0 +1,283 @@
+-- The rows of a column as groups of equal numbers: a leader sought among those of before, and each row joined to its group. Assumes nothing.
+use mathlib.Core.Path.{_≡_, refl, sym, _∙_, ap, ap₂, subst}
+use mathlib.Core.Bool.{Bool, true, false, _&&_, _||_}
+use mathlib.Core.Logic.{_⊎_, inl, inr, ⊎-elim}
+use mathlib.Core.List.{List}
+use Prim.Native.Nat.{ℕ, _-_, _*_, _%_, _^_, _<_}
+use native.Mathlib.Omega.{arith}
+use lib.Bits.{bitAnd, bitOr, or-zero-l}
+use lib.Dec.{eqb}
+use lib.ListN.{length, getD, set, replicate, getD-replicate}
+use lib.Seq.{getD-set-same, getD-set-other}
+use borrow.Author.Tests.{eqb-true, eqb-false, eq-eqb, ne-eqb}
+use Rattle.definitions.proofs.Bools.{bool-cases, clash, not-so, or-cases, or-l, or-r, and-l, and-r}
+use Rattle.cliques.specs.Bits.{has, withRow, Inside, withoutLowest}
+use Rattle.cliques.proofs.Bits.{Lowest, has-none, has-with, rest-in, rest-of}
+use Rattle.cliques.proofs.Steps.{bit-at}
+use Rattle.fusing.specs.Groups.{LeaderOf, Groups}
+use Rattle.fusing.proofs.Rests.{passed, passed-in, passed-none, passed-all, among-more, passed-next, passed-else, passed-more, passed-other, passed-old, passed-cases}
+
+-- ---- a leader is sought
+
+-- those of the rows that are not in the rest have another cell
+pub record Seeking (cell : ℕ → ℕ) (x rows rest : ℕ) : Type 0 where
+  pub among : (k : ℕ) → has rest k ≡ true → has rows k ≡ true
+  pub left : (k : ℕ) → has rows k ≡ true → cell k ≡ x → has rest k ≡ true
+
+module _ (cell : ℕ → ℕ) (x rows : ℕ) where
+  pub seek-start : Seeking cell x rows rows
+  seek-start = record { among = λ k h. h; left = λ k h e. h }
+
+  pub seek-turn : (rest k : ℕ) → Lowest rest k → (cell k ≡ x → ⊥) → Seeking cell x rows rest → Seeking cell x rows (bitAnd rest (rest - 1))
+  unfolding withoutLowest
+  seek-turn rest k low d inv = record {
+    among = λ i h. inv .among i (rest-in rest i h);
+    left = λ i h e. rest-of rest k i low (inv .left i h e) (λ q. d (ap cell (sym q) ∙ e));
+  }
+
+  pub seek-found : (j rest k : ℕ) → has rows j ≡ false → Lowest rest k → cell k ≡ x → Seeking cell x rows rest → LeaderOf cell x rows j k
+  seek-found j rest k out low e inv =
+      let there : has rows k ≡ true = inv .among k (low .there) in
+      record { found = λ d. (there, e); none = λ q. absurd (clash there (ap (has rows) q ∙ out)) }
+
+  pub seek-none : (j rest : ℕ) → rest ≡ 0 → Seeking cell x rows rest → LeaderOf cell x rows j j
+  seek-none j rest e inv = record {
+    found = λ d. absurd (d refl);
+    none = λ q k h f. clash (inv .left k h f) (ap (λ (w : ℕ). has w k) e ∙ has-none k);
+  }
+
+-- ---- bit j joined to a word of a list
+
+bit-has : (w j k : ℕ) → j < 64 → has (bitOr w ((1 * 2 ^ j) % 2 ^ 64)) k ≡ (has w k || eqb k j)
+unfolding withRow
+bit-has w j k h = ap (λ (x : ℕ). has (bitOr w x) k) (bit-at 64 j h) ∙ has-with w j k
+
+one-has : (j k : ℕ) → j < 64 → has ((1 * 2 ^ j) % 2 ^ 64) k ≡ eqb k j
+unfolding withRow
+one-has j k h = ap (λ (x : ℕ). has x k) (sym (or-zero-l ((1 * 2 ^ j) % 2 ^ 64))) ∙ bit-has 0 j k h ∙ ap (λ (b : Bool). b || eqb k j) (has-none k)
+
+-- ---- the rows are grouped
+
+-- the leaders are marked by the last digits of their cells
+abbrev leads : (ℕ → ℕ) → List ℕ → ℕ → Bool
+leads cell marks k = has (getD marks (cell k % 16) 0) k
+
+-- the rows that are not in the rest are grouped
+pub record Grouping (cell : ℕ → ℕ) (filled rest : ℕ) (marks leaders equal : List ℕ) : Type 0 where
+  pub among : (k : ℕ) → has rest k ≡ true → has filled k ≡ true
+  pub marked : (d k : ℕ) → d < 16 → has (getD marks d 0) k ≡ true → passed filled rest k ≡ true
+  pub one : (k i : ℕ) → leads cell marks k ≡ true → leads cell marks i ≡ true → cell k ≡ cell i → k ≡ i
+  pub group : (k i : ℕ) → leads cell marks k ≡ true → has (getD equal k 0) i ≡ (passed filled rest i && eqb (cell k) (cell i))
+  pub led : (i : ℕ) → passed filled rest i ≡ true → (leads cell marks (getD leaders i 0) ≡ true) × (cell (getD leaders i 0) ≡ cell i)
+
+digit-small : (x : ℕ) → x % 16 < 16
+digit-small x = omega arith
+
+pub group-start : (cell : ℕ → ℕ) (filled : ℕ) (leaders equal : List ℕ) → Grouping cell filled filled (replicate 16 0) leaders equal
+group-start cell filled leaders equal =
+    let none : (d k : ℕ) → d < 16 → has (getD (replicate 16 0) d 0) k ≡ false = λ d k h. ap (λ (x : ℕ). has x k) (getD-replicate 16 d 0 0 h) ∙ has-none k in
+    record {
+      among = λ k h. h;
+      marked = λ d k h m. absurd (clash m (none d k h));
+      one = λ k i m q e. absurd (clash m (none (cell k % 16) k (digit-small (cell k))));
+      group = λ k i m. absurd (clash m (none (cell k % 16) k (digit-small (cell k))));
+      led = λ i h. absurd (clash h (passed-none filled i));
+    }
+
+-- where the cell of a group is another, the next row changes nothing in it
+group-else : (was now next same : Bool) → now ≡ (was || next) → (next ≡ true → same ≡ false) → (was && same) ≡ (now && same)
+group-else was now true same e f = ap (λ (b : Bool). was && b) (f refl) ∙ none was ∙ sym (ap (λ (b : Bool). now && b) (f refl) ∙ none now)
+  where
+    none : (b : Bool) → (b && false) ≡ false
+    none true = refl
+    none false = refl
+group-else was now false same e f = ap (λ (b : Bool). b && same) (sym (e ∙ last was))
+  where
+    last : (b : Bool) → (b || false) ≡ b
+    last true = refl
+    last false = refl
+
+-- where it is the same, the next row is joined
+group-with : (was now next same : Bool) → now ≡ (was || next) → (next ≡ true → same ≡ true) → ((was && same) || next) ≡ (now && same)
+group-with was now true same e f = yes (was && same) ∙ sym (ap₂ (λ (a b : Bool). a && b) (e ∙ yes was) (f refl))
+  where
+    yes : (b : Bool) → (b || true) ≡ true
+    yes true = refl
+    yes false = refl
+group-with was now false same e f = last (was && same) ∙ ap (λ (b : Bool). b && same) (sym (e ∙ last was))
+  where
+    last : (b : Bool) → (b || false) ≡ b
+    last true = refl
+    last false = refl
+
+-- row j is next; a leader of before is sought for it
+module _ (cell : ℕ → ℕ) (filled rest : ℕ) (marks leaders equal : List ℕ) (inv : Grouping cell filled rest marks leaders equal) (j : ℕ) (low : Lowest rest j) where
+  abbrev digit : ℕ
+  digit = cell j % 16
+
+  pub marked-filled : (d k : ℕ) → d < 16 → has (getD marks d 0) k ≡ true → has filled k ≡ true
+  marked-filled d k h m = passed-in filled rest k (inv .marked d k h m)
+
+  pub next-unmarked : (d : ℕ) → d < 16 → has (getD marks d 0) j ≡ false
+  next-unmarked d h = not-so (has (getD marks d 0) j) (λ m. passed-other filled rest j (inv .among) low j (inv .marked d j h m) refl)
+
+  leader-passed : (k : ℕ) → leads cell marks k ≡ true → passed filled rest k ≡ true
+  leader-passed k m = inv .marked (cell k % 16) k (digit-small (cell k)) m
+
+  marked-more : (d k : ℕ) → d < 16 → has (getD marks d 0) k ≡ true → passed filled (withoutLowest rest) k ≡ true
+  marked-more d k h m = passed-old filled rest j (inv .among) low k (inv .marked d k h m)
+
+  module _ (small : j < 64) (space : j < length leaders) where
+    -- the next row's leader is r
+    led-more : (r : ℕ) (marks' : List ℕ) → ((k : ℕ) → leads cell marks k ≡ true → leads cell marks' k ≡ true) → leads cell marks' r ≡ true → cell r ≡ cell j
+        → (i : ℕ) → passed filled (withoutLowest rest) i ≡ true
+        → (leads cell marks' (getD (set leaders j r) i 0) ≡ true) × (cell (getD (set leaders j r) i 0) ≡ cell i)
+    led-more r marks' still m e i h =
+        passed-cases filled rest j (inv .among) low i h
+        (λ p d.
+        let o = inv .led i p in
+        let q : getD leaders i 0 ≡ getD (set leaders j r) i 0 = sym (getD-set-other leaders j i r 0 d) in
+        (subst (λ (k : ℕ). leads cell marks' k ≡ true) q (still (getD leaders i 0) (o .0)), ap cell (sym q) ∙ o .1))
+        (λ q.
+        let w : r ≡ getD (set leaders j r) i 0 = sym (ap (λ (k : ℕ). getD (set leaders j r) k 0) q ∙ getD-set-same leaders j r 0 space) in
+        (subst (λ (k : ℕ). leads cell marks' k ≡ true) w m, ap cell (sym w) ∙ e ∙ ap cell (sym q)))
+
+    -- no group has its number
+    module _ (r : ℕ) (leader : LeaderOf cell (cell j) (getD marks digit 0) j r) (here : r ≡ j) (room : j < length equal) (size : length marks ≡ 16) where
+      abbrev marks' : List ℕ
+      marks' = set marks digit (bitOr (getD marks digit 0) ((1 * 2 ^ j) % 2 ^ 64))
+
+      abbrev equal' : List ℕ
+      equal' = set equal j ((1 * 2 ^ j) % 2 ^ 64)
+
+      other-cell : (k : ℕ) → passed filled rest k ≡ true → cell k ≡ cell j → ⊥
+      other-cell k p e =
+          let o = inv .led k p in
+          let same : cell (getD leaders k 0) ≡ cell j = o .1 ∙ e in
+          leader .none here (getD leaders k 0) (ap (λ (x : ℕ). has (getD marks (x % 16) 0) (getD leaders k 0)) (sym same) ∙ o .0) same
+
+      mark-here : (k : ℕ) → has (getD marks' digit 0) k ≡ (has (getD marks digit 0) k || eqb k j)
+      mark-here k =
+          ap (λ (x : ℕ). has x k) (getD-set-same marks digit (bitOr (getD marks digit 0) ((1 * 2 ^ j) % 2 ^ 64)) 0 (omega (arith, digit-small (cell j))))
+          ∙ bit-has (getD marks digit 0) j k small
+
+      mark-else : (d k : ℕ) → (d ≡ digit → ⊥) → has (getD marks' d 0) k ≡ has (getD marks d 0) k
+      mark-else d k n = ap (λ (x : ℕ). has x k) (getD-set-other marks digit d (bitOr (getD marks digit 0) ((1 * 2 ^ j) % 2 ^ 64)) 0 n)
+
+      mark-cases : (d k : ℕ) → has (getD marks' d 0) k ≡ true → (has (getD marks d 0) k ≡ true) ⊎ (k ≡ j)
+      mark-cases d k m =
+          bool-cases (eqb d digit)
+          (λ e.
+          let q : d ≡ digit = eqb-true d digit e in
+          ⊎-elim (λ h. inl (ap (λ (x : ℕ). has (getD marks x 0) k) q ∙ h)) (λ h. inr (eqb-true k j h))
+          (or-cases (has (getD marks digit 0) k) (eqb k j) (sym (mark-here k) ∙ ap (λ (x : ℕ). has (getD marks' x 0) k) (sym q) ∙ m)))
+          (λ e. inl (sym (mark-else d k (eqb-false d digit e)) ∙ m))
+
+      mark-still : (d k : ℕ) → has (getD marks d 0) k ≡ true → has (getD marks' d 0) k ≡ true
+      mark-still d k m =
+          bool-cases (eqb d digit)
+          (λ e.
+          let q : d ≡ digit = eqb-true d digit e in
+          ap (λ (x : ℕ). has (getD marks' x 0) k) q
+          ∙ mark-here k
+          ∙ or-l (has (getD marks digit 0) k) (eqb k j) (ap (λ (x : ℕ). has (getD marks x 0) k) (sym q) ∙ m))
+          (λ e. mark-else d k (eqb-false d digit e) ∙ m)
+
+      mark-own : leads cell marks' j ≡ true
+      mark-own = mark-here j ∙ or-r (has (getD marks digit 0) j) (eqb j j) (eq-eqb j j refl)
+
+      group-old : (k i : ℕ) → leads cell marks k ≡ true → has (getD equal' k 0) i ≡ (passed filled (withoutLowest rest) i && eqb (cell k) (cell i))
+      group-old k i m =
+          let p : passed filled rest k ≡ true = leader-passed k m in
+          ap (λ (x : ℕ). has x i) (getD-set-other equal j k ((1 * 2 ^ j) % 2 ^ 64) 0 (passed-other filled rest j (inv .among) low k p))
+          ∙ inv .group k i m
+          ∙ group-else (passed filled rest i) (passed filled (withoutLowest rest) i) (eqb i j) (eqb (cell k) (cell i)) (passed-more filled rest j (inv .among) low i)
+          (λ e. ne-eqb (cell k) (cell i) (λ q. other-cell k p (q ∙ ap cell (eqb-true i j e))))
+
+      group-own : (i : ℕ) → has (getD equal' j 0) i ≡ (passed filled (withoutLowest rest) i && eqb (cell j) (cell i))
+      group-own i =
+          ap (λ (x : ℕ). has x i) (getD-set-same equal j ((1 * 2 ^ j) % 2 ^ 64) 0 room)
+          ∙ one-has j i small
+          ∙ bool-cases (eqb i j)
+          (λ e.
+          let q : i ≡ j = eqb-true i j e in
+          e ∙ sym (ap₂ (λ (a b : Bool). a && b) (ap (passed filled (withoutLowest rest)) q ∙ passed-next filled rest j (inv .among) low)
+          (eq-eqb (cell j) (cell i) (ap cell (sym q)))))
+          (λ e.
+          e ∙ sym (not-so (passed filled (withoutLowest rest) i && eqb (cell j) (cell i))
+          (λ h.
+          other-cell i
+          (sym (passed-else filled rest j (inv .among) low i (eqb-false i j e)) ∙ and-l (passed filled (withoutLowest rest) i) (eqb (cell j) (cell i)) h)
+          (sym (eqb-true (cell j) (cell i) (and-r (passed filled (withoutLowest rest) i) (eqb (cell j) (cell i)) h))))))
+
+      pub group-new : Grouping cell filled (bitAnd rest (rest - 1)) marks' (set leaders j r) equal'
+      unfolding withoutLowest
+      group-new = record {
+        among = among-more filled rest j (inv .among) low;
+        marked = λ d k h m. ⊎-elim (λ o. marked-more d k h o) (λ q. ap (passed filled (withoutLowest rest)) q ∙ passed-next filled rest j (inv .among) low) (mark-cases d k m);
+        one = λ k i m n e.
+            ⊎-elim
+            (λ o. ⊎-elim (λ p. inv .one k i o p e) (λ q. absurd (other-cell k (leader-passed k o) (e ∙ ap cell q))) (mark-cases (cell i % 16) i n))
+            (λ q. ⊎-elim (λ p. absurd (other-cell i (leader-passed i p) (sym e ∙ ap cell q))) (λ t. q ∙ sym t) (mark-cases (cell i % 16) i n))
+            (mark-cases (cell k % 16) k m);
+        group = λ k i m.
+            ⊎-elim (λ o. group-old k i o)
+            (λ q. subst (λ (x : ℕ). has (getD equal' x 0) i ≡ (passed filled (withoutLowest rest) i && eqb (cell x) (cell i))) (sym q) (group-own i))
+            (mark-cases (cell k % 16) k m);
+        led = led-more r marks' (λ k m. mark-still (cell k % 16) k m) (ap (leads cell marks') here ∙ mark-own) (ap cell here);
+      }
+
+    -- the group of r has its number
+    module _ (r : ℕ) (leader : LeaderOf cell (cell j) (getD marks digit 0) j r) (d : r ≡ j → ⊥) (room : r < length equal) where
+      abbrev grown : List ℕ
+      grown = set equal r (bitOr (getD equal r 0) ((1 * 2 ^ j) % 2 ^ 64))
+
+      same : cell r ≡ cell j
+      same = leader .found d .1
+
+      leads-it : leads cell marks r ≡ true
+      leads-it = ap (λ (x : ℕ). has (getD marks (x % 16) 0) r) same ∙ leader .found d .0
+
+      group-it : (i : ℕ) → has (getD grown r 0) i ≡ (passed filled (withoutLowest rest) i && eqb (cell r) (cell i))
+      group-it i =
+          ap (λ (x : ℕ). has x i) (getD-set-same equal r (bitOr (getD equal r 0) ((1 * 2 ^ j) % 2 ^ 64)) 0 room)
+          ∙ bit-has (getD equal r 0) j i small
+          ∙ ap (λ (b : Bool). b || eqb i j) (inv .group r i leads-it)
+          ∙ group-with (passed filled rest i) (passed filled (withoutLowest rest) i) (eqb i j) (eqb (cell r) (cell i)) (passed-more filled rest j (inv .among) low i)
+          (λ e. eq-eqb (cell r) (cell i) (same ∙ ap cell (sym (eqb-true i j e))))
+
+      group-other : (k i : ℕ) → leads cell marks k ≡ true → (k ≡ r → ⊥) → has (getD grown k 0) i ≡ (passed filled (withoutLowest rest) i && eqb (cell k) (cell i))
+      group-other k i m n =
+          ap (λ (x : ℕ). has x i) (getD-set-other equal r k (bitOr (getD equal r 0) ((1 * 2 ^ j) % 2 ^ 64)) 0 n)
+          ∙ inv .group k i m
+          ∙ group-else (passed filled rest i) (passed filled (withoutLowest rest) i) (eqb i j) (eqb (cell k) (cell i)) (passed-more filled rest j (inv .among) low i)
+          (λ e. ne-eqb (cell k) (cell i) (λ q. n (inv .one k r m leads-it (q ∙ ap cell (eqb-true i j e) ∙ sym same))))
+
+      pub group-more : Grouping cell filled (bitAnd rest (rest - 1)) marks (set leaders j r) grown
+      unfolding withoutLowest
+      group-more = record {
+        among = among-more filled rest j (inv .among) low;
+        marked = marked-more;
+        one = inv .one;
+        group = λ k i m.
+            bool-cases (eqb k r)
+            (λ e. subst (λ (x : ℕ). has (getD grown x 0) i ≡ (passed filled (withoutLowest rest) i && eqb (cell x) (cell i))) (sym (eqb-true k r e)) (group-it i))
+            (λ e. group-other k i m (eqb-false k r e));
+        led = led-more r marks (λ k m. m) leads-it same;
+      }
+
+-- all rows are grouped
+pub group-end : (cell : ℕ → ℕ) (filled rest : ℕ) (marks leaders equal : List ℕ) → rest ≡ 0 → Inside filled (length equal)
+    → Grouping cell filled rest marks leaders equal → Groups cell filled leaders equal
+group-end cell filled rest marks leaders equal e inside inv =
+    let own : (i : ℕ) → has filled i ≡ true → (leads cell marks (getD leaders i 0) ≡ true) × (cell (getD leaders i 0) ≡ cell i) =
+    λ i h. inv .led i (passed-all filled rest i e ∙ h) in
+    record {
+      led = λ i h.
+          let l = getD leaders i 0 in
+          inside l (passed-in filled rest l (inv .marked (cell l % 16) l (digit-small (cell l)) (own i h .0)));
+      alike = λ i k h.
+          let l = getD leaders i 0 in
+          inv .group l k (own i h .0)
+          ∙ ap₂ (λ (a : Bool) (x : ℕ). a && eqb x (cell k)) (passed-all filled rest k e) (own i h .1);
+    }

@@ -1,0 +1,103 @@
+-- `fill_columns` meets its contract. The loop's invariant: the words hold the first j rows.
+use borrow.Author.Needs.{needs}
+use mathlib.Core.Path.{_≡_, refl, sym, _∙_, subst}
+use Prim.Native.Nat.{ℕ, _+_, _-_, _*_, _≤_}
+use native.Mathlib.Nat.{zero-mul, add-mul, one-mul}
+use native.Mathlib.Omega.{arith}
+use lib.ListN.{length}
+use Rattle.definitions.specs.Image.{rowsIn}
+use Rattle.lists.proofs.Flat.{row-fits}
+use Rattle.fusing.specs.Columns.{ColumnsOf}
+use Rattle.fusing.proofs.Parts.{part-length}
+use Rattle.fusing.proofs.FilledRows.{columns-more}
+use Rattle.fusing.proofs.columns.fill_columns.Statement.{statement}
+use Rattle.fusing.proofs.columns.fill_columns.Tie as tie
+
+abbrev Inv-loop : tie.InvT-loop
+Inv-loop cells n width columns₀ j₀ at₀ columns j at =
+    (j ≤ n) × (at ≡ j * width) × (length columns ≡ length columns₀) × ColumnsOf (rowsIn width j cells) width columns
+
+abbrev μ-loop : tie.MeasureT-loop
+μ-loop cells n width columns₀ j₀ at₀ columns j at = n - j
+
+-- the next row is within the cells
+row-within : (c : tie.In-loop Inv-loop μ-loop) → c .before .loop .at + c .before .before .before .before .args .width ≤ length (c .before .before .before .before .args .cells .now)
+row-within c =
+    let s = c .before .before .before .before in
+    let l = c .before .loop in
+    omega (arith, l .inv .1, s .pre .1, row-fits (s .args .width) (s .args .n) (l .j) (c .loop-test .taken))
+
+loop-holds : tie.Need-loop-holds Inv-loop μ-loop
+loop-holds c = let s = c .before .before in (search needs, sym (zero-mul (s .args .width)), refl, s .pre .2)
+
+add-next : tie.Need-add-next Inv-loop μ-loop
+add-next c = let w = row-within c in search needs
+
+mul-mark-columns : tie.Need-mul-mark-columns Inv-loop μ-loop
+mul-mark-columns c = let w = row-within c in search needs
+
+sub-mark-columns : tie.Need-sub-mark-columns Inv-loop μ-loop
+sub-mark-columns c = search needs
+
+part-mark-columns-start : tie.Need-part-mark-columns-start Inv-loop μ-loop
+part-mark-columns-start c = search needs
+
+part-mark-columns-end : tie.Need-part-mark-columns-end Inv-loop μ-loop
+part-mark-columns-end c = let w = row-within c in search needs
+
+mark-columns-requires : tie.Need-mark-columns-requires Inv-loop μ-loop
+mark-columns-requires c κs =
+    let s = c .before .before .before .before .before .before in
+    let a = s .args in
+    let l = c .before .before .before .loop in
+    let t = c .before .before .loop-test .taken in
+    let long = part-length (a .width) (a .n) (l .j) (a .cells .now) (s .pre .1) t (l .at) (l .inv .1) in
+    (omega (arith, long, l .inv .3 .size), omega (arith, t, s .pre .0))
+
+add-j : tie.Need-add-j Inv-loop μ-loop
+add-j c = search needs
+
+loop-less : tie.Need-loop-less Inv-loop μ-loop
+loop-less c = search needs
+
+loop-again : tie.Need-loop-again Inv-loop μ-loop
+loop-again c =
+    let s = c .before .before .before .before .before .before .before .before .before in
+    let a = s .args in
+    let l = c .before .before .before .before .before .before .loop in
+    let t = c .before .before .before .before .before .loop-test .taken in
+    let f = c .before .before .mark-columns in (
+      omega arith,
+      omega (arith, l .inv .1, add-mul (l .j) 1 (a .width), one-mul (a .width)),
+      f .kept .1 .1 .0 ∙ l .inv .2,
+      columns-more (a .width) (a .n) (l .j) (l .at) (a .cells .now) (s .pre .1) t (l .inv .1) (l .columns) _ (l .inv .3) (f .ensures),
+    )
+
+same-length : tie.Need-same-length Inv-loop μ-loop
+same-length c = c .before .loop .inv .2
+
+returns : tie.Need-returns Inv-loop μ-loop
+returns c =
+    let a = c .before .before .before .before .args in
+    let l = c .before .loop in
+    let e : l .j ≡ a .n = omega arith in
+    subst (λ (k : ℕ). ColumnsOf (rowsIn (a .width) k (a .cells .now)) (a .width) (l .columns)) e (l .inv .3)
+
+pub fill-columns-spec : {M : Type 1} → statement M
+fill-columns-spec =
+    tie.close
+    (tie.spec
+    Inv-loop
+    μ-loop
+    loop-holds
+    add-next
+    mul-mark-columns
+    sub-mark-columns
+    part-mark-columns-start
+    part-mark-columns-end
+    mark-columns-requires
+    add-j
+    loop-less
+    loop-again
+    same-length
+    returns)

@@ -1,0 +1,75 @@
+-- `crossing` meets its contract. The loop's invariant: the words hold of each row what the first c columns say.
+use borrow.Author.Needs.{needs}
+use mathlib.Core.Path.{refl}
+use Prim.Native.Nat.{_-_, _^_, _<_, _≤_}
+use native.Mathlib.Omega.{arith}
+use lib.Bits.{bitAnd, bitOr, and-le-l}
+use lib.ListN.{length, getD}
+use Rattle.fusing.proofs.Crossing.{PassedTo, passed-start, passed-turn, passed-end}
+use Rattle.fusing.proofs.graph.crossing.Statement.{statement}
+use Rattle.fusing.proofs.graph.crossing.Tie as tie
+
+abbrev Inv-loop : tie.InvT-loop
+Inv-loop row columns shared₀ above₀ within₀ c₀ shared above within c = (c ≤ length row) × (above < 2 ^ 64) × (within < 2 ^ 64) × PassedTo row columns c shared above within
+
+abbrev μ-loop : tie.MeasureT-loop
+μ-loop row columns shared₀ above₀ within₀ c₀ shared above within c = length row - c
+
+loop-holds : tie.Need-loop-holds Inv-loop μ-loop
+loop-holds c = let a = c .before .before .args in (search needs, search needs, search needs, passed-start (a .row .now) (a .columns .now))
+
+mul-filled : tie.Need-mul-filled Inv-loop μ-loop
+mul-filled c = search needs
+
+shared-slice-read-filled : tie.Need-shared-slice-read-filled Inv-loop μ-loop
+shared-slice-read-filled c = search needs
+
+mul-blank : tie.Need-mul-blank Inv-loop μ-loop
+mul-blank c = search needs
+
+shared-slice-read-blank : tie.Need-shared-slice-read-blank Inv-loop μ-loop
+shared-slice-read-blank c = search needs
+
+blank-requires : tie.Need-blank-requires Inv-loop μ-loop
+blank-requires c κs = search needs
+
+add-c : tie.Need-add-c Inv-loop μ-loop
+add-c c = search needs
+
+loop-less : tie.Need-loop-less Inv-loop μ-loop
+loop-less c = search needs
+
+loop-again : tie.Need-loop-again Inv-loop μ-loop
+loop-again c =
+    let a = c .before .before .before .before .before .before .before .args in
+    let l = c .before .before .before .before .loop in
+    let f = getD (a .columns .now) (l .c) 0 in
+    let e = c .blank .result in (
+      search needs,
+      omega (arith, and-le-l (l .above) (bitOr f e), l .inv .1),
+      omega (arith, and-le-l (l .within) (2 ^ 64 - 1 - bitAnd f e), l .inv .2),
+      passed-turn (a .row .now) (a .columns .now) (l .c) (l .shared) (l .above) (l .within) f e (search needs) (omega (arith, c .before .before .shared-slice-known3 .given (l .c))) refl (c .blank .ensures) (l .inv .3),
+    )
+
+returns : tie.Need-returns Inv-loop μ-loop
+returns c =
+    let a = c .before .before .before .before .args in
+    let l = c .before .loop in
+    passed-end (a .row .now) (a .columns .now) (l .c) (l .shared) (l .above) (l .within) (search needs) (l .inv .1) (l .inv .2) (l .inv .3)
+
+pub crossing-spec : {M : Type 1} → statement M
+crossing-spec =
+    tie.close
+    (tie.spec
+    Inv-loop
+    μ-loop
+    loop-holds
+    mul-filled
+    shared-slice-read-filled
+    mul-blank
+    shared-slice-read-blank
+    blank-requires
+    add-c
+    loop-less
+    loop-again
+    returns)

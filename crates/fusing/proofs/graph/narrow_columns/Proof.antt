@@ -1,0 +1,124 @@
+-- `narrow_columns` meets its contract. The loop's invariant: the words hold what the first c columns leave.
+use borrow.Author.Needs.{needs}
+use mathlib.Core.Path.{_≡_, refl, sym, _∙_, ap}
+use mathlib.Core.Bool.{true}
+use Prim.Native.Nat.{ℕ, _-_, _≤_, _<_}
+use native.Mathlib.Omega.{arith}
+use lib.ListN.{length, getD}
+use Rattle.definitions.specs.Image.{rowsIn}
+use Rattle.lists.proofs.Flat.{rows-length}
+use Rattle.cliques.specs.Bits.{has}
+use Rattle.fusing.proofs.FilledRows.{filled-within, columns-within}
+use Rattle.fusing.proofs.Narrowing.{NarrowedTo, narrowed-none, narrowed-turn, narrowed-end}
+use Rattle.fusing.proofs.graph.narrow_columns.Statement.{statement}
+use Rattle.fusing.proofs.graph.narrow_columns.Tie as tie
+
+abbrev Inv-loop : tie.InvT-loop
+Inv-loop cells n width columns neighbours₀ leaders₀ equal₀ c₀ neighbours leaders equal c =
+    (c ≤ width) × (length leaders ≡ 64) × (length equal ≡ 64) × (length neighbours ≡ length neighbours₀) × NarrowedTo (rowsIn width n cells) neighbours₀ c neighbours
+
+abbrev μ-loop : tie.MeasureT-loop
+μ-loop cells n width columns neighbours₀ leaders₀ equal₀ c₀ neighbours leaders equal c = width - c
+
+-- the rows that are filled in the column are below n
+below : (c : tie.In-loop Inv-loop μ-loop) (k : ℕ) → has (getD (c .before .before .before .before .before .args .columns .now) (c .before .loop .c) 0) k ≡ true → k < c .before .before .before .before .before .args .n
+below c k h =
+    let s = c .before .before .before .before .before in
+    let a = s .args in
+    let l = c .before .loop in
+    omega (arith, filled-within (rowsIn (a .width) (a .n) (a .cells .now)) (l .c) k (ap (λ (x : ℕ). has x k) (sym (s .pre .2 .marks (l .c) (c .loop-test .taken))) ∙ h), rows-length (a .width) (a .n) (a .cells .now))
+
+loop-holds : tie.Need-loop-holds Inv-loop μ-loop
+loop-holds c = let a = c .before .before .before .args in (search needs, search needs, search needs, refl, narrowed-none (rowsIn (a .width) (a .n) (a .cells .now)) (a .neighbours .now))
+
+mul-filled : tie.Need-mul-filled Inv-loop μ-loop
+mul-filled c = omega (arith, c .before .before .before .before .before .pre .2 .size)
+
+shared-slice-read-filled : tie.Need-shared-slice-read-filled Inv-loop μ-loop
+shared-slice-read-filled c = omega (arith, c .before .before .before .before .before .before .pre .2 .size)
+
+slice-aggregate-group-rows : tie.Need-slice-aggregate-group-rows Inv-loop μ-loop
+slice-aggregate-group-rows c = search needs
+
+slice-aggregate-group-rows-2 : tie.Need-slice-aggregate-group-rows-2 Inv-loop μ-loop
+slice-aggregate-group-rows-2 c = search needs
+
+group-rows-requires : tie.Need-group-rows-requires Inv-loop μ-loop
+group-rows-requires c κs =
+    let s = c .before .before .before .before .before .before .before .before in
+    let a = s .args in
+    let l = c .before .before .before .before .loop in
+    let i = c .before .before .before in (
+      columns-within (a .width) (a .n) (a .cells .now) (a .columns .now) (s .pre .1) (s .pre .2) (l .c) (i .loop-test .taken),
+      λ k h. omega (arith, below i k h, l .inv .1, s .pre .0),
+      λ k h. omega (arith, below i k h, l .inv .2, s .pre .0),
+    )
+
+slice-aggregate-narrow-rows : tie.Need-slice-aggregate-narrow-rows Inv-loop μ-loop
+slice-aggregate-narrow-rows c = search needs
+
+slice-aggregate-narrow-rows-2 : tie.Need-slice-aggregate-narrow-rows-2 Inv-loop μ-loop
+slice-aggregate-narrow-rows-2 c = search needs
+
+narrow-rows-requires : tie.Need-narrow-rows-requires Inv-loop μ-loop
+narrow-rows-requires c κs =
+    let s = c .before .before .before .before .before .before .before .before .before .before .before .before .before .before in
+    let l = c .before .before .before .before .before .before .before .before .before .before .loop in
+    let i = c .before .before .before .before .before .before .before .before .before in
+    let g = c .before .before .before .before .before .group-rows in (
+      g .ensures .led,
+      λ k h. omega (arith, below i k h, g .kept .1 .1 .1 .1 .0, l .inv .1, s .pre .0),
+      λ k h. omega (arith, below i k h, l .inv .3, s .pre .3),
+    )
+
+add-c : tie.Need-add-c Inv-loop μ-loop
+add-c c = search needs
+
+loop-less : tie.Need-loop-less Inv-loop μ-loop
+loop-less c = search needs
+
+loop-again : tie.Need-loop-again Inv-loop μ-loop
+loop-again c =
+    let s = c .before .before .before .before .before .before .before .before .before .before .before .before .before .before .before .before .before in
+    let a = s .args in
+    let l = c .before .before .before .before .before .before .before .before .before .before .before .before .before .loop in
+    let g = c .before .before .before .before .before .before .before .before .group-rows in
+    let n = c .before .before .narrow-rows in (
+      search needs,
+      g .kept .1 .1 .1 .1 .0 ∙ l .inv .1,
+      g .kept .1 .1 .1 .1 .1 .0 ∙ l .inv .2,
+      n .kept .1 .1 .1 .0 ∙ l .inv .3,
+      narrowed-turn (a .width) (a .n) (a .cells .now) (a .columns .now) (a .neighbours .now) (s .pre .0) (s .pre .1) (s .pre .2) (l .c) _ _ _ (l .neighbours) _ (c .before .before .before .before .before .before .before .before .before .before .before .before .loop-test .taken) refl
+          (g .ensures) (n .ensures) (l .inv .4),
+    )
+
+same-length : tie.Need-same-length Inv-loop μ-loop
+same-length c = c .before .loop .inv .3
+
+returns : tie.Need-returns Inv-loop μ-loop
+returns c =
+    let s = c .before .before .before .before .before in
+    let a = s .args in
+    let l = c .before .loop in
+    narrowed-end (a .width) (a .n) (a .cells .now) (a .columns .now) (a .neighbours .now) (s .pre .0) (s .pre .1) (s .pre .2) (l .c) (l .neighbours) (search needs) (l .inv .4)
+
+pub narrow-columns-spec : {M : Type 1} → statement M
+narrow-columns-spec =
+    tie.close
+    (tie.spec
+    Inv-loop
+    μ-loop
+    loop-holds
+    mul-filled
+    shared-slice-read-filled
+    slice-aggregate-group-rows
+    slice-aggregate-group-rows-2
+    group-rows-requires
+    slice-aggregate-narrow-rows
+    slice-aggregate-narrow-rows-2
+    narrow-rows-requires
+    add-c
+    loop-less
+    loop-again
+    same-length
+    returns)
