@@ -16,11 +16,11 @@ use Rattle.definitions.specs.ComplementUnion.{subsets, isComplementing, maximal
 use Rattle.definitions.specs.SetList.{bits}
 use Rattle.definitions.proofs.Bools.{bool-cases}
 use Rattle.definitions.proofs.Ascending.{determined, is-rising, ascending-has, ascending-only}
-use Rattle.cliques.specs.Bits.{compareBits}
+use Rattle.bitsets.specs.Bits.{compareBits}
 use Rattle.cliques.specs.Graph.{near, Graph, AllSets}
 use Rattle.cliques.specs.Maximal.{Maxima}
 use Rattle.cliques.specs.Search.{rowOf}
-use Rattle.cliques.proofs.Order.{setBits}
+use Rattle.bitsets.proofs.Order.{setBits}
 use Rattle.cliques.proofs.Sublists.{ascending-once, no-longer}
 use Rattle.cliques.proofs.Maximal.{Simple, adjacent}
 use Rattle.cliques.proofs.Listed.{listed, listed-rises, listed-max, max-listed}

@@ -6,10 +6,10 @@ use Prim.Native.Nat.{ℕ, zero, suc, _+_, zero-le}
 use native.Mathlib.Nat.{not-suc-le-zero, add-zero, zero-add}
 use native.Mathlib.Omega.{arith}
 use Rattle.definitions.proofs.Bools.{clash, not-so}
-use Rattle.cliques.specs.Bits.{has}
+use Rattle.bitsets.specs.Bits.{has}
 use Rattle.cliques.specs.Maximal.{Max, Maxima}
 use Rattle.cliques.specs.Search.{searchSets}
-use Rattle.cliques.proofs.Bits.{has-ext, has-none}
+use Rattle.bitsets.proofs.Bits.{has-ext, has-none}
 use Rattle.cliques.proofs.Maximal.{Simple, adjacent, step-max, Parent, parent}
 use Rattle.cliques.proofs.Run.{Reach, run, capped, only, finds}
 use Rattle.cliques.proofs.Once.{once}

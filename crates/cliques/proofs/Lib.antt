@@ -1,6 +1,4 @@
 -- The theory of the search: sets as numbers, their order, maximal sets of a prefix, all of them found, and in bounded work.
-pub mod Bits
-pub mod Order
 pub mod Sublists
 pub mod Marks
 pub mod Maximal

@@ -15,10 +15,10 @@ use Rattle.definitions.proofs.Bools.{bool-cases, clash, not-so}
 use Rattle.definitions.proofs.Lists.{stands-map, map-stands, below-true, below-false}
 use Rattle.definitions.proofs.Orders.{sets}
 use Rattle.definitions.proofs.Sets.{Holds, Maximal, holds-within, near-all, near-some-not, listed-is, listed-rise}
-use Rattle.cliques.specs.Bits.{has, compareBits}
+use Rattle.bitsets.specs.Bits.{has, compareBits}
 use Rattle.cliques.specs.Maximal.{Max}
-use Rattle.cliques.proofs.Bits.{has-ext, has-bits}
-use Rattle.cliques.proofs.Order.{setBits, set-order}
+use Rattle.bitsets.proofs.Bits.{has-ext, has-bits}
+use Rattle.bitsets.proofs.Order.{setBits, set-order}
 use Rattle.cliques.proofs.Sublists.{rising-map}
 use Rattle.cliques.proofs.Marks.{marks, marks-length, marks-at, marks-below}
 

@@ -7,7 +7,7 @@ use native.Mathlib.Omega.{arith}
 use Rattle.definitions.specs.Statements.{Stands}
 use Rattle.cliques.specs.Maximal.{Once, Max}
 use Rattle.cliques.specs.Search.{taken}
-use Rattle.cliques.proofs.Bits.{In}
+use Rattle.bitsets.proofs.Bits.{In}
 use Rattle.cliques.proofs.Sublists.{once-join}
 use Rattle.cliques.proofs.Maximal.{Simple, adjacent, Step, joined, left, took, step-max, one-parent, taken-self}
 use Rattle.cliques.proofs.Run.{Reach, Run, stops, lists, joins, leaves, takes, only}

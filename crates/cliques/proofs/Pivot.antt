@@ -7,9 +7,9 @@ use Prim.Native.Nat.{ℕ, _<_}
 use lib.Dec.{eqb}
 use borrow.Author.Tests.{eqb-true, eqb-false}
 use Rattle.definitions.proofs.Bools.{bool-cases, clash, not-so}
-use Rattle.cliques.specs.Bits.{has, both, butNot, withRow, lowest, withoutLowest}
+use Rattle.bitsets.specs.Bits.{has, both, butNot, withRow, lowest, withoutLowest}
 use Rattle.cliques.specs.Quick.{Sub, Common, Joins, Parted, Within, Meeting, Pivoted}
-use Rattle.cliques.proofs.Bits.{In, Lowest, has-none, has-with-self, has-with-old, has-with-cases, same-set, both-in, both-l, both-r, is-lowest, at-lowest, rest-in, rest-of, rest-out, but-in, but-l, but-row, but-self}
+use Rattle.bitsets.proofs.Bits.{In, Lowest, has-none, has-with-self, has-with-old, has-with-cases, same-set, both-in, both-l, both-r, is-lowest, at-lowest, rest-in, rest-of, rest-out, but-in, but-l, but-row, but-self}
 use Rattle.cliques.proofs.Maximal.{Simple, adjacent}
 
 none-in : {A : Type 0} (set k : ℕ) → set ≡ 0 → In set k → A

@@ -13,7 +13,7 @@ use borrow.Author.Tests.{leb-true, leb-false}
 use Rattle.definitions.specs.Statements.{Stands}
 use Rattle.definitions.proofs.Bools.{bool-cases, clash}
 use Rattle.definitions.proofs.Ascending.{stands-split, stands-join}
-use Rattle.cliques.specs.Bits.{isSub, withRow}
+use Rattle.bitsets.specs.Bits.{isSub, withRow}
 use Rattle.cliques.specs.Search.{taken, mayTake, searchSets, searchCalls}
 use Rattle.cliques.proofs.Maximal.{Step, joined, left, took}
 

@@ -10,11 +10,11 @@ use lib.ListN.{length, take}
 use lib.Seq.{length-take-le, getD-take}
 use borrow.Author.Tests.{eqb-true, eqb-false}
 use Rattle.definitions.proofs.Bools.{bool-cases, clash}
-use Rattle.cliques.specs.Bits.{has, rowsBelow, withRow}
+use Rattle.bitsets.specs.Bits.{has, rowsBelow, withRow}
 use Rattle.cliques.specs.Graph.{near, Graph}
 use Rattle.cliques.specs.Maximal.{Max, Maxima}
 use Rattle.cliques.specs.Quick.{Within, Asked, Adds}
-use Rattle.cliques.proofs.Bits.{In, has-none, has-with-self, has-with-old, has-with-cases, below-of, below-in}
+use Rattle.bitsets.proofs.Bits.{In, has-none, has-with-self, has-with-old, has-with-cases, below-of, below-in}
 
 -- maximal by one relation, and by another that is the same among the rows
 max-same : (p q : ℕ → ℕ → Bool) (n : ℕ) → ((j k : ℕ) → j < n → p j k ≡ q j k) → (x : ℕ) → Max p n x → Max q n x

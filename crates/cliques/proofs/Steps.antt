@@ -2,25 +2,20 @@
 use mathlib.Core.Path.{_≡_, refl, sym, ap, _∙_}
 use mathlib.Core.Bool.{Bool, true, false, not, _&&_}
 use mathlib.Core.List.{List, [], _∷_, _++_}
-use Prim.Native.Nat.{ℕ, zero, suc, _+_, _-_, _*_, _%_, _^_, _≤_, _<_}
-use native.Mathlib.Nat.{not-suc-le-zero, one-mul}
+use Prim.Native.Nat.{ℕ, zero, suc, _+_, _-_, _≤_, _<_}
+use native.Mathlib.Nat.{not-suc-le-zero}
 use native.Mathlib.Numerals.{add-one}
 use native.Mathlib.Omega.{arith}
-use lib.Pow.{shl-exact}
-use lib.Dec.{eqb, leb, lit<}
+use lib.Dec.{eqb, leb}
 use lib.ListN.{length, take}
 use lib.Seq.{length-take-le}
 use borrow.Author.Tests.{ne-eqb, le-leb, lt-leb}
 use Rattle.definitions.proofs.Bools.{clash}
 use Rattle.definitions.proofs.Lists.{below-cases}
-use Rattle.cliques.specs.Bits.{has, both, isSub, withRow}
+use Rattle.bitsets.specs.Bits.{has, both, isSub, withRow}
 use Rattle.cliques.specs.Search.{Ready, complete, isFull, taken, mayTake, searchSets}
-use Rattle.cliques.proofs.Bits.{In}
+use Rattle.bitsets.proofs.Bits.{In}
 use Rattle.cliques.proofs.Maximal.{complete-later, complete-adds}
-
--- a one shifted to a place of a word
-pub bit-at : (width k : ℕ) → k < width → (1 * 2 ^ k) % 2 ^ width ≡ 2 ^ k
-bit-at width k h = shl-exact 1 k width (lit< tt) (omega arith) ∙ one-mul (2 ^ k)
 
 -- ready for a row, and so for the next, with what the list holds by then
 pub ready-next : {width cap : ℕ} {neighbours : List ℕ} {i undecided : ℕ} {list : List ℕ} {count : ℕ} → Ready width cap neighbours i undecided list count

@@ -6,11 +6,11 @@ use Prim.Native.Nat.{ℕ, _≤_, _<_}
 use native.Mathlib.Omega.{arith}
 use lib.ListN.{length}
 use Rattle.definitions.proofs.Bools.{clash}
-use Rattle.cliques.specs.Bits.{has, both, butNot, withRow, lowest, withoutLowest}
+use Rattle.bitsets.specs.Bits.{has, both, butNot, withRow, lowest, withoutLowest}
 use Rattle.cliques.specs.Graph.{near}
 use Rattle.cliques.specs.Quick.{Sub, Within, Meeting, Pivoted, Asked, Adds}
 use Rattle.cliques.specs.Search.{rowOf}
-use Rattle.cliques.proofs.Bits.{Lowest, has-none, at-lowest}
+use Rattle.bitsets.proofs.Bits.{Lowest, has-none, at-lowest}
 use Rattle.cliques.proofs.Complete.{simple}
 use Rattle.cliques.proofs.Maximal.{Simple, adjacent}
 use Rattle.cliques.proofs.Adds.{adds-none, adds-one, adds-same, adds-both}

@@ -7,7 +7,7 @@ use lib.ListN.{length, take, getD}
 use Rattle.definitions.specs.Limits.{maxSets}
 use Rattle.definitions.specs.ComplementUnion.{maximalSets}
 use Rattle.definitions.specs.SetList.{bits}
-use Rattle.cliques.specs.Bits.{has}
+use Rattle.bitsets.specs.Bits.{has}
 
 -- bit k of word j says that the rows j and k complement each other
 abbrev pub near : List ℕ → ℕ → ℕ → Bool

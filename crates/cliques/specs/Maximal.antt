@@ -5,7 +5,7 @@ use mathlib.Core.List.{List, [], _∷_}
 use Prim.Native.Nat.{ℕ, _≤_, _<_}
 use lib.ListN.{length}
 use Rattle.definitions.specs.Statements.{Stands}
-use Rattle.cliques.specs.Bits.{has, Inside}
+use Rattle.bitsets.specs.Bits.{has, Inside}
 
 -- no element stands in the list twice
 abbrev pub Once : {A : Type 0} → List A → Type 0

@@ -6,7 +6,7 @@ use mathlib.Core.List.{List, _++_}
 use Prim.Native.Nat.{ℕ, _≤_, _<_}
 use lib.ListN.{length}
 use Rattle.definitions.specs.Statements.{Stands}
-use Rattle.cliques.specs.Bits.{has, Inside}
+use Rattle.bitsets.specs.Bits.{has, Inside}
 use Rattle.cliques.specs.Graph.{near, Graph}
 use Rattle.cliques.specs.Maximal.{Once, Max}
 

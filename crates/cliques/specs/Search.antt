@@ -5,7 +5,7 @@ use mathlib.Core.List.{List, [], _∷_, _++_}
 use Prim.Native.Nat.{ℕ, zero, suc, _+_, _≤_}
 use lib.Dec.{eqb, leb}
 use lib.ListN.{length, getD}
-use Rattle.cliques.specs.Bits.{both, isSub, withRow}
+use Rattle.bitsets.specs.Bits.{both, isSub, withRow}
 
 -- the rows that complement row j, of the words of a graph
 abbrev pub rowOf : List ℕ → ℕ → ℕ

@@ -12,7 +12,7 @@ ghost use mathlib.Core.Path.{_≡_};
 ghost use Prim.Native.Nat.{suc, _≤_, _<_};
 ghost use lib.ListN.{length, take};
 ghost use Rattle.definitions.specs.Limits.{maxSets, maxUnionRows};
-ghost use Rattle.cliques.specs.Bits.{Inside};
+ghost use Rattle.bitsets.specs.Bits.{Inside};
 ghost use Rattle.cliques.specs.Graph.{near, Graph};
 ghost use Rattle.cliques.specs.Quick.{Sub, Common, Asked, Within, Meeting, Pivoted, Adds};
 

@@ -2,7 +2,7 @@
 use definitions::Order;
 ghost use mathlib.Core.Path.{_≡_};
 ghost use Prim.Native.Nat.{_<_};
-ghost use Rattle.cliques.specs.Bits.{has, both, isSub, butNot, withRow, rowsBelow, lowest, withoutLowest, compareBits};
+ghost use Rattle.bitsets.specs.Bits.{has, both, isSub, butNot, withRow, rowsBelow, lowest, withoutLowest, compareBits};
 
 // Is row k in the set?
 pub(crate) fn has_row(set: u64, k: usize) -> bool

@@ -3,7 +3,7 @@ ghost use mathlib.Core.Path.{_≡_};
 ghost use mathlib.Core.Bool.{true};
 ghost use Prim.Native.Nat.{_<_, _≤_};
 ghost use lib.ListN.{length};
-ghost use Rattle.cliques.specs.Bits.{has};
+ghost use Rattle.bitsets.specs.Bits.{has};
 ghost use Rattle.cliques.specs.Graph.{Graph};
 ghost use Rattle.cliques_runs.specs.Mirrored.{Mirrored};
 

@@ -14,8 +14,8 @@ use Rattle.definitions.specs.ComplementUnion.{agree, complement}
 use Rattle.definitions.proofs.Patterns.{only}
 use Rattle.lists.proofs.Walks.{next, end}
 use Rattle.lists.proofs.Flat.{rows-length, rows-at}
-use Rattle.cliques.specs.Bits.{has, both, rowsBelow}
-use Rattle.cliques.proofs.Bits.{has-both, has-or, has-none, below-in}
+use Rattle.bitsets.specs.Bits.{has, both, rowsBelow}
+use Rattle.bitsets.proofs.Bits.{has-both, has-or, has-none, below-in}
 use Rattle.patterns.specs.Marks.{blankOf}
 use Rattle.patterns.proofs.Marking.{has-blank, blank-fits}
 use Rattle.fusing.specs.Columns.{filledIn, ColumnsOf}

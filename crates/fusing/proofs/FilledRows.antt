@@ -14,8 +14,8 @@ use Rattle.definitions.specs.ComplementUnion.{marked}
 use Rattle.definitions.specs.SetList.{bits}
 use Rattle.definitions.proofs.Sets.{marked-get, holds-within}
 use Rattle.lists.proofs.Flat.{rows-length, row-fits}
-use Rattle.cliques.specs.Bits.{has}
-use Rattle.cliques.proofs.Bits.{has-bits}
+use Rattle.bitsets.specs.Bits.{has}
+use Rattle.bitsets.proofs.Bits.{has-bits}
 use Rattle.patterns.proofs.Digits.{mark-next}
 use Rattle.rows.specs.Numbers.{rowAt}
 use Rattle.fusing.specs.Columns.{filledIn, ColumnsOf, FilledRow, Within}

@@ -11,9 +11,8 @@ use lib.ListN.{length, getD, set, replicate, getD-replicate}
 use lib.Seq.{getD-set-same, getD-set-other}
 use borrow.Author.Tests.{eqb-true, eqb-false, eq-eqb, ne-eqb}
 use Rattle.definitions.proofs.Bools.{bool-cases, clash, not-so, or-cases, or-l, or-r, and-l, and-r}
-use Rattle.cliques.specs.Bits.{has, withRow, Inside, withoutLowest}
-use Rattle.cliques.proofs.Bits.{Lowest, has-none, has-with, rest-in, rest-of}
-use Rattle.cliques.proofs.Steps.{bit-at}
+use Rattle.bitsets.specs.Bits.{has, withRow, Inside, withoutLowest}
+use Rattle.bitsets.proofs.Bits.{bit-at, Lowest, has-none, has-with, rest-in, rest-of}
 use Rattle.fusing.specs.Groups.{LeaderOf, Groups}
 use Rattle.fusing.proofs.Rests.{passed, passed-in, passed-none, passed-all, among-more, passed-next, passed-else, passed-more, passed-other, passed-old, passed-cases}
 

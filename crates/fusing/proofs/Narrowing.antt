@@ -13,9 +13,9 @@ use Rattle.definitions.specs.Word.{isFilled}
 use Rattle.definitions.specs.Image.{rowsIn}
 use Rattle.definitions.proofs.Bools.{bool-cases, clash}
 use Rattle.lists.proofs.Flat.{rows-length, rows-at}
-use Rattle.cliques.specs.Bits.{has, both, withoutLowest}
+use Rattle.bitsets.specs.Bits.{has, both, withoutLowest}
 use Rattle.cliques.specs.Graph.{near}
-use Rattle.cliques.proofs.Bits.{Lowest, has-both, has-or}
+use Rattle.bitsets.proofs.Bits.{Lowest, has-both, has-or}
 use Rattle.fusing.specs.Columns.{ColumnsOf}
 use Rattle.fusing.specs.Groups.{cellIn, Groups}
 use Rattle.fusing.specs.Graph.{NarrowedBy, Narrowed}

@@ -22,8 +22,8 @@ use Rattle.definitions.proofs.Rows.{Filled, CellAgrees, filled-cell, empty-cell
 use Rattle.definitions.proofs.Sets.{Holds, Complementing, holds-within, listed-is}
 use Rattle.definitions.proofs.Joined.{members-are, members-agree, joined-some, joined-empty, joined-length}
 use Rattle.lists.proofs.Flat.{rows-length, rows-at, rows-wide}
-use Rattle.cliques.specs.Bits.{has, both, lowest}
-use Rattle.cliques.proofs.Bits.{Lowest, has-both, has-none, has-bits, lowest-one, trailing-lowest, is-lowest}
+use Rattle.bitsets.specs.Bits.{has, both, lowest}
+use Rattle.bitsets.proofs.Bits.{Lowest, has-both, has-none, has-bits, lowest-one, trailing-lowest, is-lowest}
 use Rattle.fusing.specs.Columns.{filledIn, ColumnsOf}
 use Rattle.fusing.specs.Join.{pickCell, pickFrom}
 use Rattle.fusing.proofs.FilledRows.{cell-at, filled-has}

@@ -5,8 +5,8 @@ use Prim.Native.Nat.{ℕ}
 use lib.Dec.{eqb}
 use borrow.Author.Tests.{eqb-true, eqb-false}
 use Rattle.definitions.proofs.Bools.{bool-cases, bool-eq, clash, and-l}
-use Rattle.cliques.specs.Bits.{has, withoutLowest}
-use Rattle.cliques.proofs.Bits.{Lowest, has-none, rest-in, rest-of, rest-out}
+use Rattle.bitsets.specs.Bits.{has, withoutLowest}
+use Rattle.bitsets.proofs.Bits.{Lowest, has-none, rest-in, rest-of, rest-out}
 
 -- a row of the set that is no longer in the rest
 abbrev pub passed : ℕ → ℕ → ℕ → Bool

@@ -7,8 +7,8 @@ use native.Mathlib.Omega.{arith}
 use lib.Dec.{eqb}
 use borrow.Author.Tests.{eqb-true, eqb-false}
 use Rattle.definitions.proofs.Bools.{bool-cases}
-use Rattle.cliques.specs.Bits.{has}
-use Rattle.cliques.proofs.Bits.{has-low, has-suc}
+use Rattle.bitsets.specs.Bits.{has}
+use Rattle.bitsets.proofs.Bits.{has-low, has-suc}
 
 pub has-lacked : (n a k : ℕ) → a < 2 ^ n → k < n → has (2 ^ n - 1 - a) k ≡ not (has a k)
 has-lacked zero a k h l = absurd (omega arith)

@@ -6,7 +6,7 @@ use Prim.Native.Nat.{ℕ, _+_, _*_, _≤_, _<_}
 use lib.ListN.{length, getD}
 use Rattle.definitions.specs.Word.{isFilled}
 use Rattle.definitions.specs.SetList.{bits}
-use Rattle.cliques.specs.Bits.{has}
+use Rattle.bitsets.specs.Bits.{has}
 
 -- the rows that are filled in a column, as a set
 unfoldable pub filledIn : List (List ℕ) → ℕ → ℕ

@@ -7,7 +7,7 @@ use Prim.Native.Nat.{ℕ, _≤_, _<_}
 use lib.ListN.{length, getD}
 use Rattle.definitions.specs.Limits.{maxUnionRows}
 use Rattle.definitions.specs.ComplementUnion.{agree, complement, complementAt}
-use Rattle.cliques.specs.Bits.{has}
+use Rattle.bitsets.specs.Bits.{has}
 use Rattle.cliques.specs.Graph.{near, Graph}
 use Rattle.fusing.specs.Columns.{ColumnsOf}
 

@@ -5,7 +5,7 @@ use mathlib.Core.List.{List}
 use Prim.Native.Nat.{ℕ, _+_, _*_, _<_}
 use lib.Dec.{eqb}
 use lib.ListN.{length, getD}
-use Rattle.cliques.specs.Bits.{has}
+use Rattle.bitsets.specs.Bits.{has}
 
 -- the cells of a column, by their rows
 abbrev pub cellIn : ℕ → List ℕ → ℕ → ℕ → ℕ

@@ -5,7 +5,7 @@ use Prim.Native.Nat.{ℕ, suc, _+_, _*_}
 use lib.Bits.{bitAnd}
 use lib.Dec.{eqb}
 use lib.ListN.{getD}
-use Rattle.cliques.specs.Bits.{lowest}
+use Rattle.bitsets.specs.Bits.{lowest}
 
 -- the cell in a column of the first row of the set; empty where the set is
 unfoldable pub pickCell : ℕ → List ℕ → ℕ → ℕ → ℕ

@@ -4,7 +4,7 @@ ghost use Prim.Native.Nat.{_*_, _≤_};
 ghost use lib.ListN.{length};
 ghost use Rattle.definitions.specs.Limits.{maxUnionRows};
 ghost use Rattle.definitions.specs.Image.{rowsIn};
-ghost use Rattle.cliques.specs.Bits.{Inside};
+ghost use Rattle.bitsets.specs.Bits.{Inside};
 ghost use Rattle.fusing.specs.Columns.{ColumnsOf};
 ghost use Rattle.fusing.specs.Groups.{Led};
 ghost use Rattle.fusing.specs.Graph.{Crossing, CrossingRows, NarrowedBy, Narrowed, GraphOf};

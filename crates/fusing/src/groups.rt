@@ -2,7 +2,7 @@
 ghost use mathlib.Core.Path.{_≡_};
 ghost use mathlib.Core.Bool.{false};
 ghost use lib.ListN.{length};
-ghost use Rattle.cliques.specs.Bits.{has, Inside};
+ghost use Rattle.bitsets.specs.Bits.{has, Inside};
 ghost use Rattle.fusing.specs.Columns.{Reach};
 ghost use Rattle.fusing.specs.Groups.{cellIn, LeaderOf, Groups};
 

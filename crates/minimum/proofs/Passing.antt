@@ -11,8 +11,8 @@ use lib.Pow.{shr-le}
 use Rattle.definitions.specs.Limits.{maxUnionRows}
 use Rattle.definitions.specs.Word.{isFilled}
 use Rattle.definitions.proofs.Bools.{bool-cases}
-use Rattle.cliques.specs.Bits.{has, both, rowsBelow}
-use Rattle.cliques.proofs.Bits.{has-shift, both-in, or-in-l, or-in-r, below-in, trailing-none}
+use Rattle.bitsets.specs.Bits.{has, both, rowsBelow}
+use Rattle.bitsets.proofs.Bits.{has-shift, both-in, or-in-l, or-in-r, below-in, trailing-none}
 use Rattle.patterns.specs.Marks.{slotOf, blankOf, MarkedFor}
 use Rattle.patterns.proofs.Marking.{has-blank}
 use Rattle.minimum.specs.Marks.{Candidates, NextOf}

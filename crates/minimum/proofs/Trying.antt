@@ -20,7 +20,7 @@ use Rattle.definitions.proofs.Lists.{stands-get, stands-at, any-of, any-none, b
 use Rattle.definitions.proofs.Rows.{filled-cell, covers-at}
 use Rattle.definitions.proofs.Subsumption.{subsumes-is, subsumes-self}
 use Rattle.lists.proofs.Flat.{rows-length, rows-at, row-fits, part-row}
-use Rattle.cliques.specs.Bits.{has}
+use Rattle.bitsets.specs.Bits.{has}
 use Rattle.minimum.specs.Trying.{isSubsumed, triesAt}
 use Rattle.patterns.specs.Marks.{MarkedFor}
 use Rattle.minimum.specs.Marks.{Candidates, NextOf, Prepared}

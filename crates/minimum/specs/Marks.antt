@@ -6,7 +6,7 @@ use Prim.Native.Nat.{ℕ, _+_, _*_, _≤_, _<_}
 use lib.ListN.{length, getD}
 use Rattle.definitions.specs.Limits.{maxColumns, maxUnionRows}
 use Rattle.definitions.specs.Word.{isFilled}
-use Rattle.cliques.specs.Bits.{has}
+use Rattle.bitsets.specs.Bits.{has}
 use Rattle.patterns.specs.Marks.{slots, MarkedFor}
 use Rattle.minimum.specs.Trying.{Counted}
 

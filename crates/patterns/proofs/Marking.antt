@@ -15,9 +15,8 @@ use Rattle.definitions.specs.Word.{isFilled}
 use Rattle.definitions.proofs.Bools.{bool-cases}
 use Rattle.definitions.proofs.Lists.{below-cases}
 use Rattle.definitions.proofs.Rows.{cell-filled, cell-empty}
-use Rattle.cliques.specs.Bits.{has, withRow, rowsBelow}
-use Rattle.cliques.proofs.Bits.{has-none, has-with-self, has-with-old, below-in}
-use Rattle.cliques.proofs.Steps.{bit-at}
+use Rattle.bitsets.specs.Bits.{has, withRow, rowsBelow}
+use Rattle.bitsets.proofs.Bits.{bit-at, has-none, has-with-self, has-with-old, below-in}
 use Rattle.patterns.specs.Marks.{slots, slotOf, blankOf, MarkedFor, MarkedRow}
 
 -- what was marked is marked still

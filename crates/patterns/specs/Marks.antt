@@ -6,7 +6,7 @@ use Prim.Native.Nat.{ℕ, _+_, _*_, _%_, _<_}
 use lib.ListN.{length, getD}
 use Rattle.definitions.specs.Limits.{maxColumns, maxUnionRows}
 use Rattle.definitions.specs.Word.{isFilled}
-use Rattle.cliques.specs.Bits.{has, rowsBelow}
+use Rattle.bitsets.specs.Bits.{has, rowsBelow}
 
 -- a mark word for each column and last hexadecimal digit
 abbrev pub slots : ℕ

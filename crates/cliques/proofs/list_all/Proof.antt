@@ -6,7 +6,7 @@ use lib.ListN.{length, take}
 use lib.Seq.{length-take-le}
 use borrow.Author.Needs.{needs}
 use Rattle.definitions.specs.Limits.{maxSets, maxUnionRows}
-use Rattle.cliques.specs.Bits.{withRow}
+use Rattle.bitsets.specs.Bits.{withRow}
 use Rattle.cliques.specs.Search.{rowOf}
 use Rattle.cliques.proofs.Complete.{simple}
 use Rattle.cliques.proofs.Found.{found}

@@ -3,7 +3,7 @@ use native.Mathlib.Omega.{arith}
 use borrow.Author.Needs.{needs}
 use lib.ListN.{length}
 use Rattle.cliques.specs.Search.{rowOf}
-use Rattle.cliques.proofs.Bits.{lowest-inside}
+use Rattle.bitsets.proofs.Bits.{lowest-inside}
 use Rattle.cliques.proofs.Complete.{simple}
 use Rattle.cliques.proofs.Pivot.{pivot-done, pivot-first}
 use Rattle.cliques.proofs.quick.branches.Statement.{statement}

@@ -5,11 +5,11 @@ use Prim.Native.Nat.{ℕ}
 use native.Mathlib.Omega.{arith}
 use lib.ListN.{length}
 use borrow.Author.Needs.{needs}
-use Rattle.cliques.specs.Bits.{Inside}
+use Rattle.bitsets.specs.Bits.{Inside}
 use Rattle.cliques.specs.Graph.{near}
 use Rattle.cliques.specs.Quick.{Common}
 use Rattle.cliques.specs.Search.{rowOf}
-use Rattle.cliques.proofs.Bits.{lowest-inside, rest-inside, rest-less}
+use Rattle.bitsets.proofs.Bits.{lowest-inside, rest-inside, rest-less}
 use Rattle.cliques.proofs.Maximal.{adjacent}
 use Rattle.cliques.proofs.Pivot.{common-none, common-empty, common-turn}
 use Rattle.cliques.proofs.quick.common.Statement.{statement}

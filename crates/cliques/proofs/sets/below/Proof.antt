@@ -4,8 +4,8 @@ use Prim.Native.Nat.{ℕ, _-_}
 use native.Mathlib.Omega.{arith}
 use lib.Pow.{pow-pos}
 use borrow.Author.Needs.{needs}
-use Rattle.cliques.specs.Bits.{rowsBelow}
-use Rattle.cliques.proofs.Steps.{bit-at}
+use Rattle.bitsets.specs.Bits.{rowsBelow}
+use Rattle.bitsets.proofs.Bits.{bit-at}
 use Rattle.cliques.proofs.sets.below.Statement.{statement}
 use Rattle.cliques.proofs.sets.below.Tie as tie
 

@@ -1,7 +1,7 @@
 -- `compare` tells the order of two sets: where they differ, the trailing zeros of their exclusive or are the smallest position of one alone.
 use native.Mathlib.Omega.{arith}
 use borrow.Author.Needs.{needs}
-use Rattle.cliques.proofs.Order.{compare-same, row-below, compare-before, compare-after}
+use Rattle.bitsets.proofs.Order.{compare-same, row-below, compare-before, compare-after}
 use Rattle.cliques.proofs.sets.compare.Statement.{statement}
 use Rattle.cliques.proofs.sets.compare.Tie as tie
 

@@ -1,7 +1,7 @@
 -- `has_row` tells whether a position is in the set: the test is that of the definition.
 use mathlib.Core.Path.{refl}
 use borrow.Author.Needs.{needs}
-use Rattle.cliques.specs.Bits.{has}
+use Rattle.bitsets.specs.Bits.{has}
 use Rattle.cliques.proofs.sets.has_row.Statement.{statement}
 use Rattle.cliques.proofs.sets.has_row.Tie as tie
 

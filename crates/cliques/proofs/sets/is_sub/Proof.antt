@@ -3,7 +3,7 @@ use mathlib.Core.Path.{ap}
 use Prim.Native.Nat.{ℕ}
 use lib.Dec.{eqb}
 use borrow.Author.Needs.{needs}
-use Rattle.cliques.specs.Bits.{isSub}
+use Rattle.bitsets.specs.Bits.{isSub}
 use Rattle.cliques.proofs.sets.is_sub.Statement.{statement}
 use Rattle.cliques.proofs.sets.is_sub.Tie as tie
 

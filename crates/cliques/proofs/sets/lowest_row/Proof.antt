@@ -2,7 +2,7 @@
 use native.Mathlib.Omega.{arith}
 use lib.Count.{trailing-le}
 use borrow.Author.Needs.{needs}
-use Rattle.cliques.proofs.Bits.{trailing-is}
+use Rattle.bitsets.proofs.Bits.{trailing-is}
 use Rattle.cliques.proofs.sets.lowest_row.Statement.{statement}
 use Rattle.cliques.proofs.sets.lowest_row.Tie as tie
 

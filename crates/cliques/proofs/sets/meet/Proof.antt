@@ -1,6 +1,6 @@
 -- `meet` gives the positions that are in both: the operation is that of the definition.
 use mathlib.Core.Path.{refl}
-use Rattle.cliques.specs.Bits.{both}
+use Rattle.bitsets.specs.Bits.{both}
 use Rattle.cliques.proofs.sets.meet.Statement.{statement}
 use Rattle.cliques.proofs.sets.meet.Tie as tie
 

@@ -1,6 +1,6 @@
 -- `minus` gives the positions of a set that are not in another: the operations are those of the definition.
 use mathlib.Core.Path.{refl}
-use Rattle.cliques.specs.Bits.{both, onlyOne, butNot}
+use Rattle.bitsets.specs.Bits.{both, onlyOne, butNot}
 use Rattle.cliques.proofs.sets.minus.Statement.{statement}
 use Rattle.cliques.proofs.sets.minus.Tie as tie
 

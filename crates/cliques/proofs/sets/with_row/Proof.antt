@@ -3,8 +3,8 @@ use mathlib.Core.Path.{ap}
 use Prim.Native.Nat.{ℕ}
 use lib.Bits.{bitOr}
 use borrow.Author.Needs.{needs}
-use Rattle.cliques.specs.Bits.{withRow}
-use Rattle.cliques.proofs.Steps.{bit-at}
+use Rattle.bitsets.specs.Bits.{withRow}
+use Rattle.bitsets.proofs.Bits.{bit-at}
 use Rattle.cliques.proofs.sets.with_row.Statement.{statement}
 use Rattle.cliques.proofs.sets.with_row.Tie as tie
 

@@ -1,7 +1,7 @@
 -- `without_lowest` drops the smallest position: the operation is that of the definition.
 use mathlib.Core.Path.{refl}
 use borrow.Author.Needs.{needs}
-use Rattle.cliques.specs.Bits.{withoutLowest}
+use Rattle.bitsets.specs.Bits.{withoutLowest}
 use Rattle.cliques.proofs.sets.without_lowest.Statement.{statement}
 use Rattle.cliques.proofs.sets.without_lowest.Tie as tie
 

@@ -1,7 +1,7 @@
 -- `without_row` drops a position.
 use mathlib.Core.Path.{ap, _∙_}
 use borrow.Author.Needs.{needs}
-use Rattle.cliques.specs.Bits.{butNot}
+use Rattle.bitsets.specs.Bits.{butNot}
 use Rattle.cliques.proofs.sets.without_row.Statement.{statement}
 use Rattle.cliques.proofs.sets.without_row.Tie as tie
 

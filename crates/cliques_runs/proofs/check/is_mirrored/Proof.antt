@@ -6,7 +6,7 @@ use borrow.Author.Count.{below-none, below-more}
 use borrow.Author.Needs.{needs}
 use Rattle.definitions.proofs.Bools.{clash}
 use Rattle.cliques.specs.Graph.{near}
-use Rattle.cliques.proofs.Bits.{beq-same}
+use Rattle.bitsets.proofs.Bits.{beq-same}
 use Rattle.cliques_runs.proofs.check.is_mirrored.Statement.{statement}
 use Rattle.cliques_runs.proofs.check.is_mirrored.Tie as tie
 

@@ -1,7 +1,7 @@
 -- `says` tells whether a bit is set: the test is that of the definition.
 use mathlib.Core.Path.{refl}
 use borrow.Author.Needs.{needs}
-use Rattle.cliques.specs.Bits.{has}
+use Rattle.bitsets.specs.Bits.{has}
 use Rattle.cliques_runs.proofs.check.says.Statement.{statement}
 use Rattle.cliques_runs.proofs.check.says.Tie as tie
 

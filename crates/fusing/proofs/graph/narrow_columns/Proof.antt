@@ -7,7 +7,7 @@ use native.Mathlib.Omega.{arith}
 use lib.ListN.{length, getD}
 use Rattle.definitions.specs.Image.{rowsIn}
 use Rattle.lists.proofs.Flat.{rows-length}
-use Rattle.cliques.specs.Bits.{has}
+use Rattle.bitsets.specs.Bits.{has}
 use Rattle.fusing.proofs.FilledRows.{filled-within, columns-within}
 use Rattle.fusing.proofs.Narrowing.{NarrowedTo, narrowed-none, narrowed-turn, narrowed-end}
 use Rattle.fusing.proofs.graph.narrow_columns.Statement.{statement}

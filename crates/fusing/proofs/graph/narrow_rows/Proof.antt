@@ -7,8 +7,8 @@ use native.Mathlib.Omega.{arith}
 use lib.Bits.{and-le-r}
 use lib.Count.{trailingZeros, trailing-le}
 use lib.ListN.{length, getD}
-use Rattle.cliques.specs.Bits.{has}
-use Rattle.cliques.proofs.Bits.{Lowest, trailing-lowest}
+use Rattle.bitsets.specs.Bits.{has}
+use Rattle.bitsets.proofs.Bits.{Lowest, trailing-lowest}
 use Rattle.fusing.proofs.Narrowing.{Narrowing, narrow-none, narrow-turn, narrow-end}
 use Rattle.fusing.proofs.graph.narrow_rows.Statement.{statement}
 use Rattle.fusing.proofs.graph.narrow_rows.Tie as tie

@@ -7,8 +7,8 @@ use native.Mathlib.Omega.{arith}
 use lib.Bits.{and-le-r}
 use lib.Count.{trailingZeros, trailing-le}
 use lib.ListN.{length, length-set}
-use Rattle.cliques.specs.Bits.{has}
-use Rattle.cliques.proofs.Bits.{Lowest, trailing-lowest, digit-below}
+use Rattle.bitsets.specs.Bits.{has}
+use Rattle.bitsets.proofs.Bits.{Lowest, trailing-lowest, digit-below}
 use Rattle.fusing.specs.Groups.{cellIn}
 use Rattle.fusing.proofs.Grouping.{Grouping, group-start, marked-filled, next-unmarked, group-new, group-more, group-end}
 use Rattle.fusing.proofs.groups.group_rows.Statement.{statement}

@@ -5,7 +5,7 @@ use native.Mathlib.Omega.{arith}
 use lib.Bits.{and-le-r}
 use lib.Count.{trailingZeros, trailing-le}
 use lib.ListN.{length}
-use Rattle.cliques.proofs.Bits.{Lowest, trailing-lowest}
+use Rattle.bitsets.proofs.Bits.{Lowest, trailing-lowest}
 use Rattle.fusing.specs.Groups.{cellIn}
 use Rattle.fusing.proofs.Grouping.{Seeking, seek-start, seek-turn, seek-found, seek-none}
 use Rattle.fusing.proofs.groups.leader.Statement.{statement}

@@ -6,8 +6,8 @@ use native.Mathlib.Omega.{arith}
 use lib.ListN.{length, getD, take}
 use lib.Seq.{length-take-le}
 use Rattle.lists.proofs.Pastes.{Pasted, paste-none, paste-turn, paste-all}
-use Rattle.cliques.specs.Bits.{both}
-use Rattle.cliques.proofs.Bits.{both-r}
+use Rattle.bitsets.specs.Bits.{both}
+use Rattle.bitsets.proofs.Bits.{both-r}
 use Rattle.fusing.specs.Join.{pickFrom}
 use Rattle.fusing.proofs.Picks.{picks-length, picks-at}
 use Rattle.fusing.proofs.join.join_set.Statement.{statement}

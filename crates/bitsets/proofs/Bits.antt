@@ -3,24 +3,28 @@
 use mathlib.Core.Path.{_≡_, refl, sym, ap, ap₂, _∙_, subst}
 use mathlib.Core.Bool.{Bool, true, false, cond, not, _&&_, _||_, Bool·beq}
 use mathlib.Core.List.{List}
-use Prim.Native.Nat.{ℕ, zero, suc, _+_, _-_, _/_, _%_, _^_, _<_}
-use native.Mathlib.Nat.{mod-lt, zero-lt-suc, not-suc-le-zero, le-of-suc-le-suc, div-one, div-div-eq-div-mul, pow-succ', zero-div, div-eq-of-lt, lt-of-lt-of-le}
+use Prim.Native.Nat.{ℕ, zero, suc, _+_, _-_, _*_, _/_, _%_, _^_, _<_}
+use native.Mathlib.Nat.{mod-lt, zero-lt-suc, not-suc-le-zero, le-of-suc-le-suc, div-one, div-div-eq-div-mul, pow-succ', zero-div, div-eq-of-lt, lt-of-lt-of-le, one-mul}
 use native.Mathlib.Omega.{arith}
 use lib.Arith.{bin-ind}
 use lib.Bits.{bitAnd, bitOr, bitXor, and-shr, or-shr, xor-shr, and-mod, or-mod, xor-mod, and-le-r}
 use lib.Count.{trailingZeros, under}
-use lib.Pow.{pow-mono, pow-pos, ones-lt, shr-shr}
-use lib.Dec.{eqb, ltb, eqb·suc-suc, eqb·zero-suc, eqb·suc-zero}
+use lib.Pow.{pow-mono, pow-pos, ones-lt, shr-shr, shl-exact}
+use lib.Dec.{eqb, ltb, lit<, eqb·suc-suc, eqb·zero-suc, eqb·suc-zero}
 use borrow.Author.Tests.{eqb-true, eqb-false, eq-eqb, ltb-true, ltb-false}
 use Rattle.definitions.specs.ComplementUnion.{marked}
 use Rattle.definitions.specs.SetList.{bits}
 use Rattle.definitions.proofs.SetWords.{bit-marks}
 use Rattle.definitions.proofs.Bools.{bool-cases, bool-eq, clash, not-so, and-l, and-r, and-i, or-l, or-r}
-use Rattle.cliques.specs.Bits.{has, both, isSub, butNot, withRow, onlyOne, rowsBelow, Inside, lowest, withoutLowest}
+use Rattle.bitsets.specs.Bits.{has, both, isSub, butNot, withRow, onlyOne, rowsBelow, Inside, lowest, withoutLowest}
 
 -- position k is in the set
 abbrev pub In : ℕ → ℕ → Type 0
 In set k = has set k ≡ true
+
+-- a one shifted to a place of a word
+pub bit-at : (width k : ℕ) → k < width → (1 * 2 ^ k) % 2 ^ width ≡ 2 ^ k
+bit-at width k h = shl-exact 1 k width (lit< tt) (omega arith) ∙ one-mul (2 ^ k)
 
 -- ---- digit by digit
 

@@ -1,0 +1,2 @@
+-- Words for sets of positions that the contracts of several crates cite.
+pub mod Bits
