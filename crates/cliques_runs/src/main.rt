@@ -37,4 +37,6 @@ fn main() {
     show(b"20 rows in pairs: ", Shape::Pairs, 20);
     show(b"20 rows in pairs, and one: ", Shape::PairsAndOne, 21);
     show(b"64 rows of 32 devices: ", Shape::Devices, 64);
+    show(b"64 rows, rest 1: ", Shape::RestOne, 64);
+    show(b"64 rows, rest 5: ", Shape::RestFive, 64);
 }
