@@ -115,7 +115,9 @@ module _ {width n : ℕ} {w counts marks : List ℕ} {k : ℕ} (own : k < n) (re
       let c-in : c < width = omega (arith, row-long k own) in
       ⊎-elim
       (λ q. absurd (filled-cell (getD (at k) c 0) some q))
-      (λ q. subst (λ (x : ℕ). MarkedFor marks c x i) (sym (cell-at i c h c-in) ∙ q) (ready .marked .every i c h c-in))
+      (λ q.
+      let e = sym (cell-at i c h c-in) ∙ q in
+      subst (λ (x : ℕ). MarkedFor marks c x i) e (ready .marked .every i c h c-in (ap isFilled e ∙ some)))
       (covers-at (at i) (at k) e c))
 
   -- the rows before the next candidate are passed

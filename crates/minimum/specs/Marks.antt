@@ -1,4 +1,4 @@
--- The marked cells of n rows, and the candidates that they leave for a row. Rows that the marks rule out cover nothing, whatever else is marked.
+-- The marked filled cells of n rows, and the candidates that they leave for a row. Rows that the marks rule out cover nothing, whatever else is marked.
 use mathlib.Core.Path.{_≡_}
 use mathlib.Core.Bool.{true, false}
 use mathlib.Core.List.{List}
@@ -10,9 +10,9 @@ use Rattle.bitsets.specs.Bits.{has}
 use Rattle.patterns.specs.Marks.{slots, MarkedFor}
 use Rattle.minimum.specs.Trying.{Counted}
 
--- the cells of n rows are marked
+-- the filled cells of n rows are marked
 pub record Marked (width n : ℕ) (w marks : List ℕ) : Type 0 where
-  pub every : (j c : ℕ) → j < n → c < width → MarkedFor marks c (getD w (j * width + c) 0) j
+  pub every : (j c : ℕ) → j < n → c < width → isFilled (getD w (j * width + c) 0) ≡ true → MarkedFor marks c (getD w (j * width + c) 0) j
 
 -- the set holds each row that is marked for every filled cell of a row
 pub record Candidates (row marks : List ℕ) (set : ℕ) : Type 0 where

@@ -1,4 +1,4 @@
--- Marks of the cells of rows, a bit a row: a word for each column and last hexadecimal digit holds the rows with such a cell there.
+-- Marks of the filled cells of rows, a bit a row: a word for each column and last hexadecimal digit holds the rows with such a cell there.
 use mathlib.Core.Path.{_≡_}
 use mathlib.Core.Bool.{true, cond}
 use mathlib.Core.List.{List}
@@ -23,7 +23,7 @@ blankOf cell = cond (isFilled cell) 0 (rowsBelow maxUnionRows)
 abbrev pub MarkedFor : List ℕ → ℕ → ℕ → ℕ → Type 0
 MarkedFor marks c cell j = has (getD marks (slotOf c cell) 0) j ≡ true
 
--- the cells of row j have been marked
+-- the filled cells of row j have been marked
 pub record MarkedRow (row : List ℕ) (j : ℕ) (found marks : List ℕ) : Type 0 where
-  pub here : (c : ℕ) → c < length row → MarkedFor marks c (getD row c 0) j
+  pub here : (c : ℕ) → c < length row → isFilled (getD row c 0) ≡ true → MarkedFor marks c (getD row c 0) j
   pub still : (s i : ℕ) → has (getD found s 0) i ≡ true → has (getD marks s 0) i ≡ true

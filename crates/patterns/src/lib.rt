@@ -1,4 +1,4 @@
-// The filled pattern of a row, the ones of a pattern, the count of filled cells, and the marks of the cells of rows.
+// The filled pattern of a row, the ones of a pattern, the count of filled cells, and the marks of the filled cells of rows.
 ghost use mathlib.Core.Path.{_≡_};
 ghost use mathlib.Core.Bool.{cond};
 ghost use mathlib.Core.List.{flatten};
@@ -19,7 +19,7 @@ pub use marks::slot;
 pub use ones::count_ones;
 
 // 1 for a filled cell, 0 for the empty cell.
-fn bit(cell: u32) -> u32
+pub(crate) fn bit(cell: u32) -> u32
     ensures { λ r. ⌜ r ≡ cond (isFilled cell) 1 0 ⌝ }
 {
     if cell == 0 { 0 } else { 1 }

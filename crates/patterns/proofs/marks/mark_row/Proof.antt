@@ -1,4 +1,4 @@
--- `mark_row` meets its contract. The loop's invariant: the cells passed are marked, and what was marked is so still. Assumes nothing.
+-- `mark_row` meets its contract. The loop's invariant: the filled cells passed are marked, and what was marked is so still. Assumes nothing.
 use borrow.Author.Needs.{needs}
 use Prim.Native.Nat.{_-_, _≤_}
 use lib.ListN.{length}
@@ -15,14 +15,20 @@ abbrev μ-loop : tie.MeasureT-loop
 loop-holds : tie.Need-loop-holds Inv-loop μ-loop
 loop-holds c = let a = c .before .before .args in (search needs, row-none (a .row .now) (a .j) (a .marks .now))
 
-mul-slot : tie.Need-mul-slot Inv-loop μ-loop
-mul-slot c = search needs
+mul-cell : tie.Need-mul-cell Inv-loop μ-loop
+mul-cell c = search needs
 
-shared-slice-read-slot : tie.Need-shared-slice-read-slot Inv-loop μ-loop
-shared-slice-read-slot c = search needs
+shared-slice-read-cell : tie.Need-shared-slice-read-cell Inv-loop μ-loop
+shared-slice-read-cell c = search needs
 
 slot-requires : tie.Need-slot-requires Inv-loop μ-loop
 slot-requires c κs = search needs
+
+bit-requires : tie.Need-bit-requires Inv-loop μ-loop
+bit-requires c κs = search needs
+
+cast-held : tie.Need-cast-held Inv-loop μ-loop
+cast-held c = search needs
 
 mul-marks : tie.Need-mul-marks Inv-loop μ-loop
 mul-marks c = search needs
@@ -47,10 +53,14 @@ loop-less c = search needs
 
 loop-again : tie.Need-loop-again Inv-loop μ-loop
 loop-again c =
-    let a = c .before .before .before .before .before .before .before .args in
-    let l = c .before .before .before .before .loop in
-    let r = c .before .slot in
-    (search needs, row-turn (a .row .now) (a .j) (a .marks .now) (l .c) (l .marks) (r .result) (l .inv .1) (search needs) (r .ensures .1) (search needs) (r .ensures .0))
+    let b = c .before in
+    let r = b .before in
+    let l = r .before .before .before .loop in
+    let a = r .before .before .before .before .before .before .args in (
+      search needs,
+      row-turn (a .row .now) (a .j) (a .marks .now) (l .c) (l .marks) (r .slot .result) (b .bit .result) (l .inv .1) (search needs) (r .slot .ensures .1)
+          (search needs) (r .slot .ensures .0) (b .bit .ensures),
+    )
 
 same-length : tie.Need-same-length Inv-loop μ-loop
 same-length c = c .before .loop .inv .1 .size
@@ -68,9 +78,11 @@ mark-row-spec =
     Inv-loop
     μ-loop
     loop-holds
-    mul-slot
-    shared-slice-read-slot
+    mul-cell
+    shared-slice-read-cell
     slot-requires
+    bit-requires
+    cast-held
     mul-marks
     slice-read-marks
     shl-marks
