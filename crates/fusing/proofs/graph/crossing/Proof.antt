@@ -48,7 +48,8 @@ loop-again c =
       search needs,
       omega (arith, and-le-l (l .above) (bitOr f e), l .inv .1),
       omega (arith, and-le-l (l .within) (2 ^ 64 - 1 - bitAnd f e), l .inv .2),
-      passed-turn (a .row .now) (a .columns .now) (l .c) (l .shared) (l .above) (l .within) f e (search needs) (omega (arith, c .before .before .shared-slice-known3 .given (l .c))) refl (c .blank .ensures) (l .inv .3),
+      passed-turn (a .row .now) (a .columns .now) (l .c) (l .shared) (l .above) (l .within) f e (search needs)
+          (omega (arith, c .before .before .shared-slice-known3 .given (l .c))) refl (c .blank .ensures) (l .inv .3),
     )
 
 returns : tie.Need-returns Inv-loop μ-loop
