@@ -35,7 +35,8 @@ fits c =
     let k = c .before .before .before .before in
     let s = start k .args in
     let said = call k .complement-union .ensures .0 in
-    complement-fits (s .first .now) (s .second .now) (length (s .table .now)) (length (s .sets .now)) _ (sym said ∙ ap complementSays (c .before .before .rows .given .1))
+    complement-fits (s .first .now) (s .second .now) (length (s .table .now)) (length (s .sets .now)) _
+    (sym said ∙ ap complementSays (c .before .before .rows .given .1))
 
 cast-t22 : tie.Need-cast-t22
 cast-t22 c = let w = fits c .0 in search needs

@@ -10,7 +10,8 @@ use Rattle.fusing.proofs.graph.crossing.Statement.{statement}
 use Rattle.fusing.proofs.graph.crossing.Tie as tie
 
 abbrev Inv-loop : tie.InvT-loop
-Inv-loop row columns shared₀ above₀ within₀ c₀ shared above within c = (c ≤ length row) × (above < 2 ^ 64) × (within < 2 ^ 64) × PassedTo row columns c shared above within
+Inv-loop row columns shared₀ above₀ within₀ c₀ shared above within c =
+    (c ≤ length row) × (above < 2 ^ 64) × (within < 2 ^ 64) × PassedTo row columns c shared above within
 
 abbrev μ-loop : tie.MeasureT-loop
 μ-loop row columns shared₀ above₀ within₀ c₀ shared above within c = length row - c

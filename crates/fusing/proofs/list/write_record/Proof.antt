@@ -77,8 +77,8 @@ returns c =
     let size = record-length (s .set) (s .row) in
     let last : l .i ≡ 3 = omega arith in
     paste-all (s .buffer .now) (s .at) record-words (l .i + 1) 4 (set (l .buffer) (s .at + 3) (c .word-of .result))
-    (paste-turn (s .buffer .now) (s .at) record-words (l .i) (s .at + 3) (l .buffer) 0 (c .word-of .result) (l .inv .1) (omega arith) (omega arith) (omega arith)
-    (c .word-of .ensures ∙ row-here (s .set) (s .row) (l .i) (l .rest) (l .inv .2) last))
+    (paste-turn (s .buffer .now) (s .at) record-words (l .i) (s .at + 3) (l .buffer) 0 (c .word-of .result) (l .inv .1)
+    (omega arith) (omega arith) (omega arith) (c .word-of .ensures ∙ row-here (s .set) (s .row) (l .i) (l .rest) (l .inv .2) last))
     (omega arith)
 
 pub write-record-spec : {M : Type 1} → statement M

@@ -8,7 +8,8 @@ use mathlib.Core.Bool.{false}
 use mathlib.Core.Logic.{⊎-elim}
 use lib.ListN.{length, drop, length-take}
 use borrow.Author.Tests.{not-true, not-false}
-use Rattle.minimum.proofs.Trying.{CoveredTo, PassedTo, Ended, counts-room, row-end, column-covered, column-differs, columns-covered, pass-skipped, pass-fewer, pass-differs, ended-none, ended-found}
+use Rattle.minimum.proofs.Trying.{CoveredTo, PassedTo, Ended, counts-room, row-end, column-covered, column-differs, columns-covered}
+use Rattle.minimum.proofs.Trying.{pass-skipped, pass-fewer, pass-differs, ended-none, ended-found}
 use Rattle.minimum.proofs.trial.try_row.Statement.{statement}
 use Rattle.minimum.proofs.trial.try_row.Tie as tie
 

@@ -49,8 +49,10 @@ loop-again : tie.Need-loop-again Inv-loop μ-loop
 loop-again c =
     let a = c .before .before .before .before .before .before .before .args in
     let l = c .before .before .before .before .loop in
-    let r = c .before .slot in
-    (search needs, row-turn (a .row .now) (a .j) (a .marks .now) (l .c) (l .marks) (r .result) (l .inv .1) (search needs) (r .ensures .1) (search needs) (r .ensures .0))
+    let r = c .before .slot in (
+      search needs,
+      row-turn (a .row .now) (a .j) (a .marks .now) (l .c) (l .marks) (r .result) (l .inv .1) (search needs) (r .ensures .1) (search needs) (r .ensures .0),
+    )
 
 same-length : tie.Need-same-length Inv-loop μ-loop
 same-length c = c .before .loop .inv .1 .size
