@@ -1,7 +1,6 @@
 -- Maximal sets of a prefix of the rows, and a step of the search to the next prefix: it keeps them maximal, every maximal set of the next
 -- prefix comes from one of this prefix, and from one alone. Assumes nothing.
 use mathlib.Core.Path.{_≡_, refl, sym, ap, _∙_, subst}
-use mathlib.Core.Logic.{_⊎_, inl, inr, ⊎-elim}
 use mathlib.Core.Bool.{Bool, true, false, not}
 use Prim.Native.Nat.{ℕ, zero, suc, _≤_, _<_}
 use native.Mathlib.Decide.{le-ind}
@@ -99,13 +98,6 @@ module _ (N : ℕ → ℕ) where
   pub complete-adds : (set i : ℕ) → isSub (complete N set i) (N i) ≡ true → In (complete N set (suc i)) i
   unfolding complete
   complete-adds set i e = rw e (has-with-self (complete N set i) i)
-
-  -- what is completed up to row i holds besides the set only rows below i
-  pub complete-from : (set i k : ℕ) → In (complete N set i) k → (In set k) ⊎ (k < i)
-  unfolding complete
-  complete-from set zero k h = inl h
-  complete-from set (suc i) k h =
-      complete-cases set i k h (λ r. ⊎-elim (λ p. inl p) (λ l. inr (omega arith)) (complete-from set i k r)) (λ p e. inr (omega arith))
 
   complete-inside : (set i n : ℕ) → i ≤ n → ((k : ℕ) → In set k → k < n) → (k : ℕ) → In (complete N set i) k → k < n
   unfolding complete

@@ -11,7 +11,6 @@ pub mod Sets
 pub mod Completion
 pub mod Widened
 pub mod Joined
-pub mod Joining
 pub mod Minimum
 pub mod Counts
 pub mod Unions

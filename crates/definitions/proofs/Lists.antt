@@ -30,10 +30,6 @@ module _ {A : Type 0} where
   stands-at d x (y ∷ l) h =
       ⊎-elim (λ e. (0, omega arith, sym e)) (λ r. let i = stands-at d x l r in (suc (i .0), omega (arith, i .1), i .2)) h
 
-  pub none-empty : (l : List A) → length l ≡ 0 → l ≡ []
-  none-empty [] e = refl
-  none-empty (x ∷ l) e = absurd (omega arith)
-
 module _ {A B : Type 0} where
   pub stands-map : (f : A → B) (x : A) (l : List A) → Stands x l → Stands (f x) (map f l)
   stands-map f x [] h = h
@@ -53,19 +49,9 @@ module _ {A B : Type 0} where
   map-at f d e (x ∷ l) zero h = refl
   map-at f d e (x ∷ l) (suc k) h = map-at f d e l k (le-of-suc-le-suc h)
 
--- ---- every element, some element
+-- ---- some element
 
 module _ {A : Type 0} (p : A → Bool) where
-  pub all-true : (l : List A) → all p l ≡ true → (x : A) → Stands x l → p x ≡ true
-  unfolding all
-  all-true [] e x h = absurd h
-  all-true (y ∷ l) e x h = ⊎-elim (λ q. ap p q ∙ and-l (p y) (all p l) e) (λ r. all-true l (and-r (p y) (all p l) e) x r) h
-
-  pub all-of : (l : List A) → ((x : A) → Stands x l → p x ≡ true) → all p l ≡ true
-  unfolding all
-  all-of [] f = refl
-  all-of (y ∷ l) f = and-i (f y (inl refl)) (all-of l (λ x h. f x (inr h)))
-
   pub any-true : (l : List A) → any p l ≡ true → (x : A) × Stands x l × (p x ≡ true)
   unfolding any
   any-true [] e = absurd (clash refl (sym e))
@@ -175,12 +161,6 @@ module _ {A : Type 0} (p : A → Bool) where
         let i = rising-keep l (h .1) in
         bool-cases (p x) (λ e. rw e (above-keep x l (h .0), i)) (λ e. rw e i)
 
-pub keep-ext : {A : Type 0} (p q : A → Bool) (l : List A) → ((x : A) → Stands x l → p x ≡ q x) → keep p l ≡ keep q l
-unfolding keep
-keep-ext p q [] f = refl
-keep-ext {A} p q (x ∷ l) f =
-    ap₂ (λ (b : Bool) (r : List A). cond b (x ∷ r) r) (f x (inl refl)) (keep-ext p q l (λ y h. f y (inr h)))
-
 -- ---- the first place that passes
 
 module _ {A : Type 0} (p : A → Bool) where
@@ -202,13 +182,6 @@ module _ {A : Type 0} (p : A → Bool) where
   place-at d (x ∷ l) h =
       bool-cases (p x) (λ e. rw e e) (λ e. rw e (place-at d l (le-of-suc-le-suc (rw e at h))))
 
-  pub place-before : (d : A) (l : List A) (j : ℕ) → j < place p l → p (getD l j d) ≡ false
-  unfolding place
-  place-before d [] j h = absurd (not-suc-le-zero h)
-  place-before d (x ∷ l) zero h = not-so (p x) (λ e. not-suc-le-zero (rw e at h))
-  place-before d (x ∷ l) (suc j) h =
-      bool-cases (p x) (λ e. absurd (not-suc-le-zero (rw e at h))) (λ e. place-before d l j (le-of-suc-le-suc (rw e at h)))
-
   pub place-of : (d : A) (l : List A) (k : ℕ) → k < length l → p (getD l k d) ≡ true → ((j : ℕ) → j < k → p (getD l j d) ≡ false)
       → place p l ≡ k
   unfolding place
@@ -223,13 +196,6 @@ module _ {A : Type 0} (p : A → Bool) where
   place-none (x ∷ l) e =
       bool-cases (p x) (λ q. absurd (clash (or-l (p x) (any p l) q) e))
       (λ q. rw q (ap suc (place-none l (not-so (any p l) (λ r. clash (or-r (p x) (any p l) r) e)))))
-
--- some element passes exactly if its place is within the list
-pub any-place : {A : Type 0} (p : A → Bool) (l : List A) → (any p l ≡ true) ↔ (place p l < length l)
-any-place p l = (
-  λ e. let i = any-true p l e in place-found p (i .0) l (i .1) (i .2),
-  λ h. bool-cases (any p l) (λ e. e) (λ e. absurd (let n = place-none p l e in omega arith)),
-)
 
 -- of a strictly ascending list, each element has one place: its own
 pub place-rising : {A : Type 0} {compare : A → A → Order} (laws : Orders compare) (same : A → A → Bool) (is : (a b : A) → (same a b ≡ true) ↔ (a ≡ b))
@@ -251,14 +217,6 @@ module _ {A : Type 0} (same : A → A → Bool) (d : A) where
       any-false (same x) l (not-true (any (same x) l) (and-l (not (any (same x) l)) (distinct same l) e)) (getD l j d) (stands-get d l j (le-of-suc-le-suc g))
   distinct-true (x ∷ l) e (suc i) (suc j) h g =
       distinct-true l (and-r (not (any (same x) l)) (distinct same l) e) i j (le-of-suc-le-suc h) (le-of-suc-le-suc g)
-
-  pub distinct-of : (l : List A) → ((i j : ℕ) → i < j → j < length l → same (getD l i d) (getD l j d) ≡ false) → distinct same l ≡ true
-  unfolding distinct
-  distinct-of [] f = refl
-  distinct-of (x ∷ l) f =
-      and-i
-      (ap not (any-none (same x) l (λ y h. let i = stands-at d y l h in ap (same x) (sym (i .2)) ∙ f 0 (suc (i .0)) (omega arith) (omega (arith, i .1)))))
-      (distinct-of l (λ i j h g. f (suc i) (suc j) (omega arith) (omega arith)))
 
 -- ---- numbers below a bound
 
@@ -285,25 +243,6 @@ module _ (p : ℕ → Bool) where
       bool-cases (allBelow n p)
       (λ q. (n, omega arith, sym (ap (λ (b : Bool). b && p n) q) ∙ e))
       (λ q. let i = below-false n q in (i .0, omega (arith, i .1), i .2))
-
--- one number more
-pub below-next : (n : ℕ) (p : ℕ → Bool) → allBelow (n + 1) p ≡ (allBelow n p && p n)
-unfolding allBelow
-below-next n p = ap (λ (k : ℕ). allBelow k p) (add-one n)
-
-pub sum-next : (n : ℕ) (f : ℕ → ℕ) → sumBelow (n + 1) f ≡ sumBelow n f + f n
-unfolding sumBelow
-sum-next n f = ap (λ (k : ℕ). sumBelow k f) (add-one n)
-
-pub below-ext : (n : ℕ) (p q : ℕ → Bool) → ((k : ℕ) → k < n → p k ≡ q k) → allBelow n p ≡ allBelow n q
-unfolding allBelow
-below-ext zero p q f = refl
-below-ext (suc n) p q f = ap₂ (λ (a b : Bool). a && b) (below-ext n p q (λ k h. f k (omega arith))) (f n (omega arith))
-
-pub sum-ext : (n : ℕ) (f g : ℕ → ℕ) → ((k : ℕ) → k < n → f k ≡ g k) → sumBelow n f ≡ sumBelow n g
-unfolding sumBelow
-sum-ext zero f g e = refl
-sum-ext (suc n) f g e = ap₂ (λ (a b : ℕ). a + b) (sum-ext n f g (λ k h. e k (omega arith))) (e n (omega arith))
 
 -- n terms of at most b
 pub sum-bound : (n b : ℕ) (f : ℕ → ℕ) → ((k : ℕ) → k < n → f k ≤ b) → sumBelow n f ≤ n * b

@@ -1,9 +1,8 @@
 -- The comparisons of words, of rows and of sets are strict total orders, and the list of all sets is ascending. Assumes nothing.
-use mathlib.Core.Path.{_≡_, refl, sym, _∙_, ap, ap₂, subst}
+use mathlib.Core.Path.{_≡_, refl, sym, _∙_, ap, ap₂}
 use mathlib.Core.Bool.{Bool, true, false, cond}
-use mathlib.Core.Logic.{_⊎_, inl, inr, ⊎-elim}
 use mathlib.Core.List.{List, [], _∷_, _++_, map}
-use Prim.Native.Nat.{ℕ, zero, suc, _<_, _≤_}
+use Prim.Native.Nat.{ℕ, zero, suc, _<_}
 use native.Mathlib.Omega.{arith}
 use lib.Dec.{ltb}
 use borrow.Author.Tests.{lt-ltb, le-ltb, ltb-true, ltb-false}
@@ -11,8 +10,8 @@ use Rattle.definitions.specs.declared.Order.{Order}
 use Rattle.definitions.specs.declared.Order.the-variants.{Before, Same, After}
 use Rattle.definitions.specs.OuterUnion.{compareWord, thenBy, compareRow}
 use Rattle.definitions.specs.ComplementUnion.{compareSet, subsets}
-use Rattle.definitions.specs.Statements.{Stands, Orders, Above, Rising}
-use Rattle.definitions.proofs.Ascending.{above-append, above-all}
+use Rattle.definitions.specs.Statements.{Orders, Above, Rising}
+use Rattle.definitions.proofs.Ascending.{above-append}
 
 -- two different cases of an order
 pub before≢same : {A : Type 0} → Before ≡ Same → A

@@ -1,10 +1,10 @@
 -- Document 01, "Rows on paper": P1 to P9 as the rows of one joint check of the definitions. Assumes nothing.
 use mathlib.Core.Path.{_≡_, refl}
 use mathlib.Core.Bool.{Bool, true, false, _&&_, Bool·beq}
-use mathlib.Core.List.{List, [], _∷_, map, flatten}
-use Prim.Native.Nat.{ℕ, zero, suc, _+_, _*_}
-use lib.Dec.{eqb, leb, ltb}
-use lib.ListN.{length, getD, take, drop}
+use mathlib.Core.List.{List, [], _∷_, flatten}
+use Prim.Native.Nat.{ℕ, _+_, _*_}
+use lib.Dec.{eqb}
+use lib.ListN.{length, take, drop}
 use Rattle.definitions.specs.Lists.{all, any, keep, place, distinct, allBelow, sumBelow}
 use Rattle.definitions.specs.Word.{wordOf}
 use Rattle.definitions.specs.Image.{imageOf}

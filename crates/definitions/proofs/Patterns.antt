@@ -2,7 +2,7 @@
 -- Assumes nothing.
 use mathlib.Core.Path.{_≡_, refl, sym, _∙_, ap, subst}
 use mathlib.Core.Bool.{Bool, true, false, not, _&&_, _||_}
-use mathlib.Core.Logic.{inl, inr, ⊎-elim, _↔_}
+use mathlib.Core.Logic.{inl, inr, ⊎-elim}
 use mathlib.Core.List.{List, [], _∷_}
 use Prim.Native.Nat.{ℕ, zero, suc}
 use lib.ListN.{length, getD}
@@ -41,9 +41,6 @@ only-of (x ∷ s) [] zero h e = or-l (isFilled x) (only s []) (cell-filled x h)
 only-of (x ∷ s) [] (suc k) h e = or-r (isFilled x) (only s []) (only-of s [] k h e)
 only-of (x ∷ s) (y ∷ t) zero h e = or-l (isFilled x && not (isFilled y)) (only s t) (and-i (cell-filled x h) (ap not (cell-empty y e)))
 only-of (x ∷ s) (y ∷ t) (suc k) h e = or-r (isFilled x && not (isFilled y)) (only s t) (only-of s t k h e)
-
-pub only-is : (s t : List ℕ) → (only s t ≡ true) ↔ Only s t
-only-is s t = (only-at s t, λ i. only-of s t (i .0) (i .1) (i .2))
 
 -- a row that is filled where s is empty is not covered by s
 only-uncovered : (s t : List ℕ) → only t s ≡ true → covers s t ≡ true → ⊥

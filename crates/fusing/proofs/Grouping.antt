@@ -110,7 +110,7 @@ group-with was now false same e f = last (was && same) ∙ ap (λ (b : Bool). b 
     last false = refl
 
 -- row j is next; a leader of before is sought for it
-module _ (cell : ℕ → ℕ) (filled rest : ℕ) (marks leaders equal : List ℕ) (inv : Grouping cell filled rest marks leaders equal) (j : ℕ) (low : Lowest rest j) where
+module _ {cell : ℕ → ℕ} {filled rest : ℕ} {marks leaders equal : List ℕ} (inv : Grouping cell filled rest marks leaders equal) {j : ℕ} (low : Lowest rest j) where
   abbrev digit : ℕ
   digit = cell j % 16
 

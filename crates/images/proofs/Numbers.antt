@@ -1,46 +1,38 @@
--- The number of an image from the answers to its questions, up to the first no.
+-- The number of an image, question by question: a no gives the question's number, a yes leaves the number to the questions after it.
 -- Assumes nothing.
-use mathlib.Core.Path.{_≡_, refl}
-use mathlib.Core.Bool.{true, false}
+use mathlib.Core.Path.{_≡_, refl, _∙_}
+use mathlib.Core.Bool.{Bool, true, false}
 use mathlib.Core.List.{List}
 use Prim.Native.Nat.{ℕ}
-use Rattle.definitions.specs.Questions.{imageNumber, hasHeader, columnsFit, rowsFit, lengthFits, columnsRight, idsDistinct, cellsRight}
+use Rattle.definitions.specs.Questions.{imageNumber, hasHeader, columnsFit, rowsFit, lengthFits, columnsRight, idsDistinct, cellsRight, ask}
 
-module _ (m : ℕ) (w : List ℕ) where
-  pub no1 : hasHeader w ≡ false → 1 ≡ imageNumber m w
-  unfolding imageNumber
-  no1 e = rw e
+-- what the questions from the seventh, sixth, .. second on give
+abbrev pub from7 : List ℕ → ℕ
+from7 w = ask (cellsRight w) 7 0
 
-  module _ (y1 : hasHeader w ≡ true) where
-    pub no2 : columnsFit w ≡ false → 2 ≡ imageNumber m w
-    unfolding imageNumber
-    no2 e = rw (y1, e)
+abbrev pub from6 : List ℕ → ℕ
+from6 w = ask (idsDistinct w) 6 (from7 w)
 
-    module _ (y2 : columnsFit w ≡ true) where
-      pub no3 : rowsFit m w ≡ false → 3 ≡ imageNumber m w
-      unfolding imageNumber
-      no3 e = rw (y1, y2, e)
+abbrev pub from5 : List ℕ → ℕ
+from5 w = ask (columnsRight w) 5 (from6 w)
 
-      module _ (y3 : rowsFit m w ≡ true) where
-        pub no4 : lengthFits w ≡ false → 4 ≡ imageNumber m w
-        unfolding imageNumber
-        no4 e = rw (y1, y2, y3, e)
+abbrev pub from4 : List ℕ → ℕ
+from4 w = ask (lengthFits w) 4 (from5 w)
 
-        module _ (y4 : lengthFits w ≡ true) where
-          pub no5 : columnsRight w ≡ false → 5 ≡ imageNumber m w
-          unfolding imageNumber
-          no5 e = rw (y1, y2, y3, y4, e)
+abbrev pub from3 : ℕ → List ℕ → ℕ
+from3 m w = ask (rowsFit m w) 3 (from4 w)
 
-          module _ (y5 : columnsRight w ≡ true) where
-            pub no6 : idsDistinct w ≡ false → 6 ≡ imageNumber m w
-            unfolding imageNumber
-            no6 e = rw (y1, y2, y3, y4, y5, e)
+abbrev pub from2 : ℕ → List ℕ → ℕ
+from2 m w = ask (columnsFit w) 2 (from3 m w)
 
-            module _ (y6 : idsDistinct w ≡ true) where
-              pub no7 : cellsRight w ≡ false → 7 ≡ imageNumber m w
-              unfolding imageNumber
-              no7 e = rw (y1, y2, y3, y4, y5, y6, e)
+pub from1 : (m : ℕ) (w : List ℕ) → imageNumber m w ≡ ask (hasHeader w) 1 (from2 m w)
+unfolding imageNumber
+from1 m w = refl
 
-              pub yes : cellsRight w ≡ true → 0 ≡ imageNumber m w
-              unfolding imageNumber
-              yes e = rw (y1, y2, y3, y4, y5, y6, e)
+-- where a number is what a question and the rest give: after a yes it is what the rest gives, after a no the question's number
+module _ (x : ℕ) (b : Bool) (k rest : ℕ) (e : x ≡ ask b k rest) where
+  pub on-yes : b ≡ true → x ≡ rest
+  on-yes y = e ∙ rw y
+
+  pub on-no : b ≡ false → k ≡ x
+  on-no n = rw (e, n)

@@ -43,33 +43,47 @@ both-written all x y a b n m ea eb fits ex ey =
     ap (take (n + m)) ey ∙ take-paste x n b m (omega arith) (omega arith)
     ∙ ap₂ (λ (p q : List ℕ). p ++ q) (paste-front all a x n ea ex) (take-all m b (omega arith))
 
--- the union has w columns, the first image n rows, and the second m
-module _ (union a b cells x y : List ℕ) (n m w : ℕ) (oa : imageNumber maxRows a ≡ 0) (ob : imageNumber maxRows b ≡ 0) (few : w ≤ maxColumns)
-    (room : maxUnionRows * maxColumns ≤ length cells) (en : n ≡ rowCount a) (em : m ≡ rowCount b) (ew : length union ≡ w) where
+-- the union has w columns, the first image n rows, and the second m; there is room for all of them
+pub record Counted (union a b cells : List ℕ) (n m w : ℕ) : Type 0 where
+  pub first-accepted : imageNumber maxRows a ≡ 0
+  pub second-accepted : imageNumber maxRows b ≡ 0
+  pub few : w ≤ maxColumns
+  pub room : maxUnionRows * maxColumns ≤ length cells
+  pub first-rows : n ≡ rowCount a
+  pub second-rows : m ≡ rowCount b
+  pub columns : length union ≡ w
+
+module _ {union a b cells : List ℕ} {n m w : ℕ} (d : Counted union a b cells n m w) where
   pub rows-few : n + m ≤ maxUnionRows
-  rows-few = let p = passed-is maxRows a .0 oa .few-rows in let q = passed-is maxRows b .0 ob .few-rows in omega arith
+  rows-few =
+      let n-is = d .first-rows in
+      let m-is = d .second-rows in
+      let p = passed-is maxRows a .0 (d .first-accepted) .few-rows in
+      let q = passed-is maxRows b .0 (d .second-accepted) .few-rows in
+      omega arith
 
   fits-all : n * w + m * w ≤ maxUnionRows * maxColumns
-  fits-all = let f = few-words (n + m) maxUnionRows w rows-few few in let e = add-mul n m w in omega arith
+  fits-all = let f = few-words (n + m) maxUnionRows w rows-few (d .few) in let e = add-mul n m w in omega arith
 
   first-words : rowCount a * length union ≡ n * w
-  first-words = ap₂ (λ (i j : ℕ). i * j) (sym en) ew
+  first-words = ap₂ (λ (i j : ℕ). i * j) (sym (d .first-rows)) (d .columns)
 
   second-words : rowCount b * length union ≡ m * w
-  second-words = ap₂ (λ (i j : ℕ). i * j) (sym em) ew
+  second-words = ap₂ (λ (i j : ℕ). i * j) (sym (d .second-rows)) (d .columns)
 
   pub first-fits : 0 + rowCount a * length union ≤ length cells
-  first-fits = let f = fits-all in let e = first-words in omega arith
+  first-fits = omega (arith, fits-all, first-words, d .room)
 
   pub few-first : n * w ≤ maxUnionRows * maxColumns
-  few-first = let f = fits-all in omega arith
+  few-first = omega (arith, fits-all)
 
-  module _ (ex : x ≡ paste cells 0 (flatten (widenedRows union a)) (rowCount a * length union)) where
+  module _ {x : List ℕ} (ex : x ≡ paste cells 0 (flatten (widenedRows union a)) (rowCount a * length union)) where
     first-size : length x ≡ length cells
-    first-size = ap length ex ∙ length-paste cells 0 (flatten (widenedRows union a)) (rowCount a * length union) first-fits (omega (arith, widened-words union a))
+    first-size =
+        ap length ex ∙ length-paste cells 0 (flatten (widenedRows union a)) (rowCount a * length union) first-fits (omega (arith, widened-words union a))
 
     pub second-fits : n * w + rowCount b * length union ≤ length x
-    second-fits = let f = fits-all in let e = second-words in let l = first-size in omega arith
+    second-fits = omega (arith, fits-all, second-words, first-size, d .room)
 
     -- the cells for the second image's rows are still empty
     pub second-empty : ((k : ℕ) → getD cells k 0 ≡ 0) → (k : ℕ) → n * w ≤ k → getD x k 0 ≡ 0
@@ -80,15 +94,16 @@ module _ (union a b cells x y : List ℕ) (n m w : ℕ) (oa : imageNumber maxRow
         ∙ empty k
 
     -- the widened rows of both images stand one after the other
-    pub both-widened : y ≡ paste x (n * w) (flatten (widenedRows union b)) (rowCount b * length union)
+    pub both-widened : {y : List ℕ} → y ≡ paste x (n * w) (flatten (widenedRows union b)) (rowCount b * length union)
         → rowsIn w (n + m) y ≡ widenedRows union a ++ widenedRows union b
-    both-widened ey =
+    both-widened {y} ey =
         let fa = flatten (widenedRows union a) in
         let fb = flatten (widenedRows union b) in
         let la : length fa ≡ n * w = widened-words union a ∙ first-words in
         let lb : length fb ≡ m * w = widened-words union b ∙ second-words in
         let all : (n + m) * w ≡ n * w + m * w = add-mul n m w in
         let fits = fits-all in
+        let room = d .room in
         let lx = first-size in
         let px : x ≡ paste cells 0 fa (n * w) = ex ∙ ap (paste cells 0 fa) first-words in
         let py : y ≡ paste x (n * w) fb (m * w) = ey ∙ ap (paste x (n * w) fb) second-words in
@@ -98,8 +113,8 @@ module _ (union a b cells x y : List ℕ) (n m w : ℕ) (oa : imageNumber maxRow
         ∙ ap (rowsIn w (n + m)) (both-written cells x y fa fb (n * w) (m * w) la lb (omega arith) px py)
         ∙ rows-append w n m fa fb la
         ∙ ap₂ (λ (p q : List (List ℕ)). p ++ q)
-        (ap₂ (λ (c k : ℕ). rowsIn c k fa) (sym ew) en ∙ widened-read union a)
-        (ap₂ (λ (c k : ℕ). rowsIn c k fb) (sym ew) em ∙ widened-read union b)
+        (ap₂ (λ (c k : ℕ). rowsIn c k fa) (sym (d .columns)) (d .first-rows) ∙ widened-read union a)
+        (ap₂ (λ (c k : ℕ). rowsIn c k fb) (sym (d .columns)) (d .second-rows) ∙ widened-read union b)
 
 -- the distinct rows, written by their numbers
 pub cells-ordered : (w n m : ℕ) (wide order cells cur : List ℕ) → n * w ≤ length wide → m ≤ length order → Ordered w n wide (take m order)
@@ -111,7 +126,8 @@ cells-ordered w n m wide order cells cur h k o e =
     pasted-rows w m rs cells cur even count (e ∙ ap (λ (l : List (List ℕ)). paste cells 0 (flatten l) (m * w)) (o .rows))
 
 -- a new table with the columns of the union, and rows in it
-module _ (a b ids firsts : List ℕ) (count : ℕ) (t : Table) (ei : take count ids ≡ unionIds a b) (ec : count ≡ length (unionIds a b)) (few : count ≤ maxColumns)
+module _ (a b ids firsts : List ℕ) (count : ℕ) (t : Table)
+    (ei : take count ids ≡ unionIds a b) (ec : count ≡ length (unionIds a b)) (few : count ≤ maxColumns)
     (ti : t .ids ≡ firsts) (tc : t .columns ≡ count) (f : (take count firsts ≡ take count ids) × (length firsts ≡ maxColumns)) where
   holds : (rs : List (List ℕ)) → rowsIn count (t .rows) (t .cells) ≡ rs → t .rows ≤ maxUnionRows → length (t .cells) ≡ maxUnionRows * maxColumns
       → Holds t (unionIds a b) rs

@@ -43,96 +43,107 @@ widened-row union image i = List·getD-map (widened union (imageIds image)) (ima
 
 -- the first i rows are written; the next one begins at `from`, and goes to `to`; k is the number of columns
 pub record Widening (image union cells₀ : List ℕ) (at k i from to : ℕ) (cells : List ℕ) : Type 0 where
+  pub accepted : imageNumber maxRows image ≡ 0
+  pub columns : k ≡ columnCount image
+  pub fits : at + rowCount image * length union ≤ length cells₀
   pub rows : i ≤ rowCount image
   pub source : from ≡ 1 + k + i * k
   pub target : to ≡ at + i * length union
   pub written : Pasted cells₀ at (flatten (widenedRows union image)) (i * length union) cells
 
-module _ (image union cells₀ : List ℕ) (at k : ℕ) (ok : imageNumber maxRows image ≡ 0) (ek : k ≡ columnCount image)
-    (fits : at + rowCount image * length union ≤ length cells₀) where
-  pub widen-starts : Widening image union cells₀ at k 0 (1 + k) at cells₀
-  widen-starts = record {
-    rows = omega arith;
-    source = sym (ap (λ (x : ℕ). 1 + k + x) (zero-mul k) ∙ add-zero (1 + k));
-    target = sym (ap (λ (x : ℕ). at + x) (zero-mul (length union)) ∙ add-zero at);
-    written = let e = zero-mul (length union) in
-        rw e (paste-none cells₀ at (flatten (widenedRows union image)));
-  }
+pub widen-starts : (image union cells₀ : List ℕ) (at k : ℕ) → imageNumber maxRows image ≡ 0 → k ≡ columnCount image
+    → at + rowCount image * length union ≤ length cells₀ → Widening image union cells₀ at k 0 (1 + k) at cells₀
+widen-starts image union cells₀ at k ok ek fits = record {
+  accepted = ok;
+  columns = ek;
+  fits = fits;
+  rows = omega arith;
+  source = sym (ap (λ (x : ℕ). 1 + k + x) (zero-mul k) ∙ add-zero (1 + k));
+  target = sym (ap (λ (x : ℕ). at + x) (zero-mul (length union)) ∙ add-zero at);
+  written = let e = zero-mul (length union) in
+      rw e (paste-none cells₀ at (flatten (widenedRows union image)));
+}
 
-  module _ (i from to : ℕ) (cells : List ℕ) (v : Widening image union cells₀ at k i from to cells) (more : i < rowCount image) where
-    pub source-within : from + k ≤ length image
-    source-within =
-        let a = passed-is maxRows image .0 ok in
-        let s = a .all-words in
-        let f = row-fits (columnCount image) (rowCount image) i more in
-        let g = v .source in
-        let e = ap (λ (x : ℕ). i * x) ek in
-        omega arith
+module _ {image union cells₀ cells : List ℕ} {at k i from to : ℕ} (v : Widening image union cells₀ at k i from to cells) (more : i < rowCount image) where
+  pub source-within : from + k ≤ length image
+  source-within =
+      let a = passed-is maxRows image .0 (v .accepted) in
+      let s = a .all-words in
+      let f = row-fits (columnCount image) (rowCount image) i more in
+      let g = v .source in
+      let k-is = v .columns in
+      let e = ap (λ (x : ℕ). i * x) (v .columns) in
+      omega arith
 
-    pub target-within : to + length union ≤ length cells₀
-    target-within = let f = row-fits (length union) (rowCount image) i more in let g = v .target in omega arith
+  pub target-within : to + length union ≤ length cells₀
+  target-within = let f = row-fits (length union) (rowCount image) i more in omega (arith, v .target, v .fits)
 
-    row-is : take (from + k - from) (drop from image) ≡ getD (imageRows image) i []
-    row-is = row-part k image ek i from (v .source) ∙ sym (rows-at (columnCount image) (rowCount image) i (cellWords image) more)
+  row-is : take (from + k - from) (drop from image) ≡ getD (imageRows image) i []
+  row-is = row-part k image (v .columns) i from (v .source) ∙ sym (rows-at (columnCount image) (rowCount image) i (cellWords image) more)
 
-    row-even : length (take (from + k - from) (drop from image)) ≡ length (imageIds image)
-    row-even =
-        let p = passed-is maxRows image .0 ok in
-        let count : length (imageRows image) ≡ rowCount image = rows-length (columnCount image) (rowCount image) (cellWords image) in
-        ap length row-is ∙ passed-rows maxRows image p (getD (imageRows image) i []) (stands-get [] (imageRows image) i (omega arith))
-        ∙ sym (passed-ids maxRows image p)
+  row-even : length (take (from + k - from) (drop from image)) ≡ length (imageIds image)
+  row-even =
+      let p = passed-is maxRows image .0 (v .accepted) in
+      let count : length (imageRows image) ≡ rowCount image = rows-length (columnCount image) (rowCount image) (cellWords image) in
+      ap length row-is ∙ passed-rows maxRows image p (getD (imageRows image) i []) (stands-get [] (imageRows image) i (omega arith))
+      ∙ sym (passed-ids maxRows image p)
 
-    module _ (places : List ℕ) (covers : Covers union image) (ep : places ≡ placesIn union (imageIds image)) where
-      -- each cell of the row has a place, within the cells
-      pub cells-within : (length (take (from + k - from) (drop from image)) ≤ length places) × ((p : ℕ) → Stands p places → to + p < length cells)
-      cells-within =
-          let count : length places ≡ length (imageIds image) = ap length ep ∙ length-map (imageIds image) _ in
-          let e = row-even in
-          let f = target-within in
-          let z = v .written .size in (
-            omega arith,
-            λ p h. let w = places-within union (imageIds image) (covers .rising) (covers .has) p (subst (Stands p) ep h) in omega arith,
-          )
+  module _ (places : List ℕ) (covers : Covers union image) (ep : places ≡ placesIn union (imageIds image)) where
+    -- each cell of the row has a place, within the cells
+    pub cells-within : (length (take (from + k - from) (drop from image)) ≤ length places) × ((p : ℕ) → Stands p places → to + p < length cells)
+    cells-within =
+        let count : length places ≡ length (imageIds image) = ap length ep ∙ length-map (imageIds image) _ in
+        let e = row-even in
+        let f = target-within in
+        let z = v .written .size in (
+          omega arith,
+          λ p h. let w = places-within union (imageIds image) (covers .rising) (covers .has) p (subst (Stands p) ep h) in omega arith,
+        )
 
-      -- what is not yet written is empty
-      next-empty : ((j : ℕ) → at ≤ j → getD cells₀ j 0 ≡ 0) → (j : ℕ) → j < length union → getD cells (to + j) 0 ≡ 0
-      next-empty empty j h =
-          let f = row-fits (length union) (rowCount image) i more in
-          let g = v .target in
-          let t = widened-words union image in
-          ap (λ (l : List ℕ). getD l (to + j) 0) (v .written .words)
-          ∙ paste-after cells₀ at (flatten (widenedRows union image)) (i * length union) (omega arith) (omega arith) (to + j) (omega arith)
-          ∙ empty (to + j) (omega arith)
+    -- what is not yet written is empty
+    next-empty : ((j : ℕ) → at ≤ j → getD cells₀ j 0 ≡ 0) → (j : ℕ) → j < length union → getD cells (to + j) 0 ≡ 0
+    next-empty empty j h =
+        let f = row-fits (length union) (rowCount image) i more in
+        let g = v .target in
+        let t = widened-words union image in
+        let room = v .fits in
+        ap (λ (l : List ℕ). getD l (to + j) 0) (v .written .words)
+        ∙ paste-after cells₀ at (flatten (widenedRows union image)) (i * length union) (omega arith) (omega arith) (to + j) (omega arith)
+        ∙ empty (to + j) (omega arith)
 
-      pub widen-turn : ((j : ℕ) → at ≤ j → getD cells₀ j 0 ≡ 0) → (new : List ℕ)
-          → new ≡ scattered cells to places (take (from + k - from) (drop from image)) → Widening image union cells₀ at k (i + 1) (from + k) (to + length union) new
-      widen-turn empty new e =
-          let w = length union in
-          let ids = imageIds image in
-          let row = take (from + k - from) (drop from image) in
-          let next = widened union ids row in
-          let f = row-fits w (rowCount image) i more in
-          let g = v .target in
-          let s = v .source in
-          let z = v .written .size in
-          let t = widened-words union image in
-          let count = widened-count union image in
-          let fits-next = target-within in
-          let step : (x : ℕ) → (i + 1) * x ≡ i * x + x = λ x. add-mul i 1 x ∙ ap (λ (y : ℕ). i * x + y) (one-mul x) in
-          let here : take w (drop (i * w) (flatten (widenedRows union image))) ≡ next =
-          flat-row w (widened union ids []) (widenedRows union image) i (widened-wide union image) (omega arith)
-          ∙ widened-row union image i ∙ ap (widened union ids) (sym row-is) in
-          let wide : new ≡ paste cells to next w =
-          e ∙ ap (λ (l : List ℕ). scattered cells to l row) ep
-          ∙ scatter-widened union ids row cells to (covers .rising) (passed-is maxRows image .0 ok .distinct-ids) (covers .has) row-even (omega arith) (next-empty empty) in
-          let p = pasted-more cells₀ at (flatten (widenedRows union image)) (i * w) cells new next w to
-          (omega arith) (omega arith) (v .written) (v .target) (widened-length union ids row) here wide in
-          record {
-            rows = omega arith;
-            source = let z = step k in omega arith;
-            target = let z = step w in omega arith;
-            written = rw (step w) p;
-          }
+    pub widen-turn : ((j : ℕ) → at ≤ j → getD cells₀ j 0 ≡ 0) → (new : List ℕ)
+        → new ≡ scattered cells to places (take (from + k - from) (drop from image)) → Widening image union cells₀ at k (i + 1) (from + k) (to + length union) new
+    widen-turn empty new e =
+        let w = length union in
+        let ids = imageIds image in
+        let row = take (from + k - from) (drop from image) in
+        let next = widened union ids row in
+        let f = row-fits w (rowCount image) i more in
+        let g = v .target in
+        let s = v .source in
+        let z = v .written .size in
+        let t = widened-words union image in
+        let count = widened-count union image in
+        let room = v .fits in
+        let fits-next = target-within in
+        let step : (x : ℕ) → (i + 1) * x ≡ i * x + x = λ x. add-mul i 1 x ∙ ap (λ (y : ℕ). i * x + y) (one-mul x) in
+        let here : take w (drop (i * w) (flatten (widenedRows union image))) ≡ next =
+        flat-row w (widened union ids []) (widenedRows union image) i (widened-wide union image) (omega arith)
+        ∙ widened-row union image i ∙ ap (widened union ids) (sym row-is) in
+        let wide : new ≡ paste cells to next w =
+        e ∙ ap (λ (l : List ℕ). scattered cells to l row) ep
+        ∙ scatter-widened union ids row cells to (covers .rising) (passed-is maxRows image .0 (v .accepted) .distinct-ids) (covers .has) row-even (omega arith) (next-empty empty) in
+        let p = pasted-more cells₀ at (flatten (widenedRows union image)) (i * w) cells new next w to
+        (omega arith) (omega arith) (v .written) (v .target) (widened-length union ids row) here wide in
+        record {
+          accepted = v .accepted;
+          columns = v .columns;
+          fits = v .fits;
+          rows = omega arith;
+          source = let z = step k in omega arith;
+          target = let z = step w in omega arith;
+          written = rw (step w) p;
+        }
 
 -- the places of the columns of an image, as the code writes them
 pub places-written : (union image part d cur : List ℕ) (k : ℕ) → Columns k image part → cur ≡ paste d 0 (placesIn union (map idOf part)) (length part)

@@ -48,10 +48,12 @@ returns-2 : tie.Need-returns-2
 returns-2 c = search needs
 
 write-words-requires : tie.Need-write-words-requires
-write-words-requires c κs = (
-  subst (AtMost 530) (c .before .before .before .before .before .before .before .before .before .first .given .1) (c .before .before .before .before .before .before .before .before .before .before .before .read-words .ensures),
-  subst (AtMost 530) (c .before .before .before .second .given .1) (c .before .before .before .before .before .read-words2 .ensures),
-)
+write-words-requires c κs =
+    let second = c .before .before .before in
+    let first = second .before .before .before .before .before .before in (
+      subst (AtMost 530) (first .first .given .1) (first .before .before .read-words .ensures),
+      subst (AtMost 530) (second .second .given .1) (second .before .before .read-words2 .ensures),
+    )
 
 returns-3 : tie.Need-returns-3
 returns-3 c = search needs

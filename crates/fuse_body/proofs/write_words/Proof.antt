@@ -10,7 +10,9 @@ slice-aggregate-write-all : tie.Need-slice-aggregate-write-all
 slice-aggregate-write-all c = sym (length-take-le (c .before .before .before .args .a) (c .before .before .before .args .board .now) (omega arith))
 
 slice-aggregate-write-all-2 : tie.Need-slice-aggregate-write-all-2
-slice-aggregate-write-all-2 c = sym (length-take-le (c .before .before .before .before .args .b) (c .before .before .before .before .args .plant .now) (omega arith))
+slice-aggregate-write-all-2 c =
+    let s = c .before .before .before .before .args in
+    sym (length-take-le (s .b) (s .plant .now) (omega arith))
 
 write-all-requires : tie.Need-write-all-requires
 write-all-requires c κs = search needs

@@ -1,11 +1,13 @@
 -- `fusion_complement_union` gives the answer of `complement_union` as words: its counts fit them.
 use mathlib.Core.Path.{sym, _∙_, ap}
-use mathlib.Core.List.{[], _∷_}
+use mathlib.Core.List.{List, [], _∷_}
+use Prim.Native.Nat.{ℕ}
 use lib.ListN.{length}
 use borrow.Author.Needs.{needs}
-use Rattle.definitions.specs.Answer.{Outcome, complementSays}
-use Rattle.fusion_c.specs.CInterface.{numberOf, complementWords, putOver}
+use Rattle.definitions.specs.Answer.{complementSays}
+use Rattle.fusion_c.specs.CInterface.{complementWords}
 use Rattle.fusion_c.proofs.Bounds.{FitWords, complement-fits}
+use Rattle.fusion_c.proofs.Given.{number-given, words-given}
 use Rattle.fusion_c.proofs.fusion_complement_union.Statement.{statement}
 use Rattle.fusion_c.proofs.fusion_complement_union.Tie as tie
 
@@ -15,12 +17,26 @@ complement-union-requires c κs = search needs
 enum-known-rows : tie.Need-enum-known-rows
 enum-known-rows c = search needs
 
--- the counts of a done answer fit
-fits : (c : tie.After-put-words-arg) → FitWords (c .before .before .rows .given .0 .0 ∷ c .before .before .rows .given .0 .1 .0 ∷ c .before .before .rows .given .0 .1 .1 .0 ∷ c .before .before .rows .given .0 .1 .1 .1 .0 ∷ c .before .before .rows .given .0 .1 .1 .1 .1 .0 ∷ [])
+-- where the call has been made
+module _ (c : tie.After-slice-known5) where
+  abbrev call : tie.After-complement-union
+  call = c .before .before .before .before
+
+  abbrev start : tie.Start
+  start = call .before .before .before .before .before .before .before .before
+
+-- the counts of a done answer
+abbrev counts : tie.After-put-words-arg → List ℕ
+counts c = let v = c .before .before .rows .given .0 in v .0 ∷ v .1 .0 ∷ v .1 .1 .0 ∷ v .1 .1 .1 .0 ∷ v .1 .1 .1 .1 .0 ∷ []
+
+-- they fit words of 32 bits
+fits : (c : tie.After-put-words-arg) → FitWords (counts c)
 fits c =
-    let a = c .before .before .before .before .before .before .before .before .before .before .before .before .before .before .before .before .args in
-    let u = c .before .before .before .before .before .before .before .before .complement-union in
-    complement-fits (a .first .now) (a .second .now) (length (a .table .now)) (length (a .sets .now)) _ (sym (u .ensures .0) ∙ ap complementSays (c .before .before .rows .given .1))
+    let k = c .before .before .before .before in
+    let s = start k .args in
+    let said = call k .complement-union .ensures .0 in
+    complement-fits (s .first .now) (s .second .now) (length (s .table .now)) (length (s .sets .now)) _
+    (sym said ∙ ap complementSays (c .before .before .rows .given .1))
 
 cast-t22 : tie.Need-cast-t22
 cast-t22 c = let w = fits c .0 in search needs
@@ -57,11 +73,12 @@ same-length-3 c = search needs
 
 returns : tie.Need-returns
 returns c =
-    let a = c .before .before .before .before .before .before .before .before .before .before .before .before .before .before .before .before .before .before .before .before .args in
-    let u = c .before .before .before .before .before .before .before .before .before .before .before .before .complement-union in
     let p = c .before .before .put-words in
-    let e = sym (ap complementSays (c .before .before .before .before .before .before .rows .given .1)) ∙ u .ensures .0 in
-    (p .ensures .0 ∙ ap numberOf e, (u .ensures .1 .0, (u .ensures .1 .1 .0, p .ensures .1 ∙ ap (λ (o : Outcome). putOver (complementWords o) (a .answer .now)) e)))
+    let arm = c .before .before .before .before .before .before in
+    let k = arm .before .before in
+    let u = call k .complement-union in
+    let e = sym (ap complementSays (arm .rows .given .1)) ∙ u .ensures .0 in
+    (number-given e (p .ensures .0), (u .ensures .1 .0, (u .ensures .1 .1 .0, words-given e complementWords (start k .args .answer .now) (p .ensures .1))))
 
 same-length-4 : tie.Need-same-length-4
 same-length-4 c = search needs
@@ -74,11 +91,12 @@ same-length-6 c = search needs
 
 returns-2 : tie.Need-returns-2
 returns-2 c =
-    let a = c .before .before .before .before .before .before .before .before .before .before .before .before .before .before .before .before .before .before .before .args in
-    let u = c .before .before .before .before .before .before .before .before .before .before .before .complement-union in
     let p = c .before .before .put-refusal in
-    let e = sym (ap complementSays (c .before .before .before .before .before .number .given .1)) ∙ u .ensures .0 in
-    (p .ensures .0 ∙ ap numberOf e, (u .ensures .1 .0, (u .ensures .1 .1 .0, p .ensures .1 ∙ ap (λ (o : Outcome). putOver (complementWords o) (a .answer .now)) e)))
+    let arm = c .before .before .before .before .before in
+    let k = arm .before .before in
+    let u = call k .complement-union in
+    let e = sym (ap complementSays (arm .number .given .1)) ∙ u .ensures .0 in
+    (number-given e (p .ensures .0), (u .ensures .1 .0, (u .ensures .1 .1 .0, words-given e complementWords (start k .args .answer .now) (p .ensures .1))))
 
 pub fusion-complement-union-spec : {M : Type 1} → statement M
 fusion-complement-union-spec =

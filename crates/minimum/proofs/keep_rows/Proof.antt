@@ -10,13 +10,22 @@ use Rattle.minimum.proofs.keep_rows.Statement.{statement}
 use Rattle.minimum.proofs.keep_rows.Tie as tie
 
 abbrev Inv-loop : tie.InvT-loop
-Inv-loop cells counts marks n width kept₀ rows₀ pairs₀ k₀ kept rows pairs k = (k ≤ n) × (length kept ≡ length kept₀) × KeptTo width n cells kept rows pairs k
+Inv-loop cells counts marks n width kept₀ rows₀ pairs₀ k₀ kept rows pairs k =
+    (k ≤ n) × (length kept ≡ length kept₀) × KeptTo width n cells kept rows pairs k
 
 abbrev μ-loop : tie.MeasureT-loop
 μ-loop cells counts marks n width kept₀ rows₀ pairs₀ k₀ kept rows pairs k = n - k
 
-few : (c : tie.Start Inv-loop μ-loop) → c .args .n ≤ maxUnionRows
-few c = c .pre .0 .few
+-- where the row has been tried
+module _ (c : tie.After-try-row Inv-loop μ-loop) where
+  abbrev turn : tie.At-loop Inv-loop μ-loop
+  turn = c .before .before
+
+  abbrev start : tie.Start Inv-loop μ-loop
+  start = turn .before .before .before .before .before
+
+  few : start .args .n ≤ maxUnionRows
+  few = start .pre .0 .few
 
 loop-holds : tie.Need-loop-holds Inv-loop μ-loop
 loop-holds c =
@@ -27,7 +36,9 @@ try-row-requires : tie.Need-try-row-requires Inv-loop μ-loop
 try-row-requires c κs = search needs
 
 add-pairs : tie.Need-add-pairs Inv-loop μ-loop
-add-pairs c = let l = c .before .before .before .loop in omega (arith, l .inv .2 .bound, few (c .before .before .before .before .before .before .before .before), c .before .try-row .ensures .2)
+add-pairs c =
+    let t = c .before in
+    omega (arith, turn t .loop .inv .2 .bound, few t, t .try-row .ensures .2)
 
 add-k : tie.Need-add-k Inv-loop μ-loop
 add-k c = search needs
@@ -37,12 +48,13 @@ loop-less c = search needs
 
 loop-again : tie.Need-loop-again Inv-loop μ-loop
 loop-again c =
-    let t = c .before .before .try-row in
-    let l = c .before .before .before .before .loop in
-    (search needs, l .inv .1, subsumed-left (l .inv .2) (few (c .before .before .before .before .before .before .before .before .before)) (search needs) (t .ensures .0) (t .ensures .1) (t .ensures .2) (c .if1 .taken))
+    let t = c .before .before in
+    let l = turn t .loop in
+    let e = t .try-row .ensures in
+    (search needs, l .inv .1, subsumed-left (l .inv .2) (few t) (search needs) (e .0) (e .1) (e .2) (c .if1 .taken))
 
 cast-kept : tie.Need-cast-kept Inv-loop μ-loop
-cast-kept c = omega (arith, few (c .before .before .before .before .before .before .before .before .before))
+cast-kept c = omega (arith, few (c .before .before))
 
 mul-kept : tie.Need-mul-kept Inv-loop μ-loop
 mul-kept c = search needs
@@ -61,9 +73,13 @@ loop-less-2 c = search needs
 
 loop-again-2 : tie.Need-loop-again-2 Inv-loop μ-loop
 loop-again-2 c =
-    let t = c .before .before .try-row in
-    let l = c .before .before .before .before .loop in
-    (search needs, length-set (l .kept) (l .rows) (l .k) ∙ l .inv .1, unsubsumed-kept (l .inv .2) (few (c .before .before .before .before .before .before .before .before .before)) (search needs) (t .ensures .0) (t .ensures .1) (t .ensures .2) (search needs) (c .if1 .left))
+    let t = c .before .before in
+    let l = turn t .loop in
+    let e = t .try-row .ensures in (
+      search needs,
+      length-set (l .kept) (l .rows) (l .k) ∙ l .inv .1,
+      unsubsumed-kept (l .inv .2) (few t) (search needs) (e .0) (e .1) (e .2) (search needs) (c .if1 .left),
+    )
 
 same-length : tie.Need-same-length Inv-loop μ-loop
 same-length c = c .before .loop .inv .1

@@ -23,8 +23,10 @@ slice-aggregate-keep-rows-2 c = search needs
 
 keep-rows-requires : tie.Need-keep-rows-requires
 keep-rows-requires c κs =
-    let s = c .before .before .before .before .before .before .before .before .before .before .before in
-    (record { narrow = s .pre .1; few = s .pre .0; room = search needs; counted = c .before .before .before .before .before .before .before .fill-counts .ensures; marked = c .before .before .before .before .mark-rows .ensures }, search needs)
+    let m = c .before .before .before .before in
+    let f = m .before .before .before in
+    let q = f .before .before .before .before in
+    (record { narrow = q .pre .1; few = q .pre .0; room = search needs; counted = f .fill-counts .ensures; marked = m .mark-rows .ensures }, search needs)
 
 same-length : tie.Need-same-length
 same-length c = search needs

@@ -50,17 +50,21 @@ loop-less c = search needs
 
 loop-again : tie.Need-loop-again Inv-loop μ-loop
 loop-again c =
-    let a = c .before .before .before .before .before .args in
-    let l = c .before .before .before .loop in
     let r = c .bit in
-    (search needs, omega (arith, r .ensures, bit-small (isFilled (getD (a .cells .now) (l .i) 0))), count-turn (a .cells .now) (a .n * a .width) (l .i) (l .total) (r .result) (search needs) (search needs) (r .ensures) (l .inv .2))
+    let l = c .before .before .before .loop in
+    let s = c .before .before .before .before .before .args in (
+      search needs,
+      omega (arith, r .ensures, bit-small (isFilled (getD (s .cells .now) (l .i) 0))),
+      count-turn (s .cells .now) (s .n * s .width) (l .i) (l .total) (r .result) (search needs) (search needs) (r .ensures) (l .inv .2),
+    )
 
 returns : tie.Need-returns Inv-loop μ-loop
 returns c =
-    let a = c .before .before .before .args in
     let l = c .before .loop in
-    let e : l .i ≡ a .n * a .width = omega arith in
-    count-ends (a .width) (a .n) (l .total) (a .cells .now) (search needs) (ap (λ (k : ℕ). l .total + filled (drop k (take (a .n * a .width) (a .cells .now)))) (sym e) ∙ l .inv .2)
+    let s = c .before .before .before .args in
+    let e : l .i ≡ s .n * s .width = omega arith in
+    count-ends (s .width) (s .n) (l .total) (s .cells .now) (search needs)
+    (ap (λ (k : ℕ). l .total + filled (drop k (take (s .n * s .width) (s .cells .now)))) (sym e) ∙ l .inv .2)
 
 pub count-rows-spec : {M : Type 1} → statement M
 count-rows-spec =

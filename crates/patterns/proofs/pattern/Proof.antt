@@ -45,7 +45,8 @@ loop-less c = search needs
 loop-again : tie.Need-loop-again Inv-loop μ-loop
 loop-again c =
     let l = c .before .before .before .loop in
-    (search needs, pattern-turn (c .before .before .before .before .before .args .row .now) (l .i) (l .p) (c .bit .result) (search needs) (search needs) (l .inv .1) (c .bit .ensures))
+    let s = c .before .before .before .before .before .args in
+    (search needs, pattern-turn (s .row .now) (l .i) (l .p) (c .bit .result) (search needs) (search needs) (l .inv .1) (c .bit .ensures))
 
 returns : tie.Need-returns Inv-loop μ-loop
 returns c =

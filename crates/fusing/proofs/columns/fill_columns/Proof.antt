@@ -20,12 +20,21 @@ Inv-loop cells n width columns₀ j₀ at₀ columns j at =
 abbrev μ-loop : tie.MeasureT-loop
 μ-loop cells n width columns₀ j₀ at₀ columns j at = n - j
 
--- the next row is within the cells
-row-within : (c : tie.In-loop Inv-loop μ-loop) → c .before .loop .at + c .before .before .before .before .args .width ≤ length (c .before .before .before .before .args .cells .now)
-row-within c =
-    let s = c .before .before .before .before in
-    let l = c .before .loop in
-    omega (arith, l .inv .1, s .pre .1, row-fits (s .args .width) (s .args .n) (l .j) (c .loop-test .taken))
+-- in the loop
+module _ (c : tie.In-loop Inv-loop μ-loop) where
+  abbrev turn : tie.At-loop Inv-loop μ-loop
+  turn = c .before
+
+  abbrev start : tie.Start Inv-loop μ-loop
+  start = turn .before .before .before
+
+  -- the next row is within the cells
+  row-within : turn .loop .at + start .args .width ≤ length (start .args .cells .now)
+  row-within = omega (arith, turn .loop .inv .1, start .pre .1, row-fits (start .args .width) (start .args .n) (turn .loop .j) (c .loop-test .taken))
+
+  -- and the row after it begins a row's width on
+  next-at : turn .loop .at + start .args .width ≡ (turn .loop .j + 1) * start .args .width
+  next-at = omega (arith, turn .loop .inv .1, add-mul (turn .loop .j) 1 (start .args .width), one-mul (start .args .width))
 
 loop-holds : tie.Need-loop-holds Inv-loop μ-loop
 loop-holds c = let s = c .before .before in (search needs, sym (zero-mul (s .args .width)), refl, s .pre .2)
@@ -47,12 +56,13 @@ part-mark-columns-end c = let w = row-within c in search needs
 
 mark-columns-requires : tie.Need-mark-columns-requires Inv-loop μ-loop
 mark-columns-requires c κs =
-    let s = c .before .before .before .before .before .before in
-    let a = s .args in
-    let l = c .before .before .before .loop in
-    let t = c .before .before .loop-test .taken in
-    let long = part-length (a .width) (a .n) (l .j) (a .cells .now) (s .pre .1) t (l .at) (l .inv .1) in
-    (omega (arith, long, l .inv .3 .size), omega (arith, t, s .pre .0))
+    let i = c .before .before in
+    let l = turn i .loop in
+    let q = start i in
+    let s = q .args in
+    let t = i .loop-test .taken in
+    let long = part-length (s .width) (s .n) (l .j) (s .cells .now) (q .pre .1) t (l .at) (l .inv .1) in
+    (omega (arith, long, l .inv .3 .size), omega (arith, t, q .pre .0))
 
 add-j : tie.Need-add-j Inv-loop μ-loop
 add-j c = search needs
@@ -62,15 +72,15 @@ loop-less c = search needs
 
 loop-again : tie.Need-loop-again Inv-loop μ-loop
 loop-again c =
-    let s = c .before .before .before .before .before .before .before .before .before in
-    let a = s .args in
-    let l = c .before .before .before .before .before .before .loop in
-    let t = c .before .before .before .before .before .loop-test .taken in
-    let f = c .before .before .mark-columns in (
+    let f = c .before .before .mark-columns in
+    let i = c .before .before .before .before .before in
+    let l = turn i .loop in
+    let q = start i in
+    let s = q .args in (
       omega arith,
-      omega (arith, l .inv .1, add-mul (l .j) 1 (a .width), one-mul (a .width)),
+      next-at i,
       f .kept .1 .1 .0 ∙ l .inv .2,
-      columns-more (a .width) (a .n) (l .j) (l .at) (a .cells .now) (s .pre .1) t (l .inv .1) (l .columns) _ (l .inv .3) (f .ensures),
+      columns-more (s .width) (s .n) (l .j) (l .at) (s .cells .now) (q .pre .1) (i .loop-test .taken) (l .inv .1) (l .columns) _ (l .inv .3) (f .ensures),
     )
 
 same-length : tie.Need-same-length Inv-loop μ-loop

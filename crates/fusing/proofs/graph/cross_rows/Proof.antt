@@ -19,12 +19,21 @@ Inv-loop cells n width columns neighbours₀ j₀ at₀ neighbours j at =
 abbrev μ-loop : tie.MeasureT-loop
 μ-loop cells n width columns neighbours₀ j₀ at₀ neighbours j at = n - j
 
--- the next row is within the cells
-row-within : (c : tie.In-loop Inv-loop μ-loop) → c .before .loop .at + c .before .before .before .before .before .args .width ≤ length (c .before .before .before .before .before .args .cells .now)
-row-within c =
-    let s = c .before .before .before .before .before in
-    let l = c .before .loop in
-    omega (arith, l .inv .1, s .pre .1, row-fits (s .args .width) (s .args .n) (l .j) (c .loop-test .taken))
+-- in the loop
+module _ (c : tie.In-loop Inv-loop μ-loop) where
+  abbrev turn : tie.At-loop Inv-loop μ-loop
+  turn = c .before
+
+  abbrev start : tie.Start Inv-loop μ-loop
+  start = turn .before .before .before .before
+
+  -- the next row is within the cells
+  row-within : turn .loop .at + start .args .width ≤ length (start .args .cells .now)
+  row-within = omega (arith, turn .loop .inv .1, start .pre .1, row-fits (start .args .width) (start .args .n) (turn .loop .j) (c .loop-test .taken))
+
+  -- and the row after it begins a row's width on
+  next-at : turn .loop .at + start .args .width ≡ (turn .loop .j + 1) * start .args .width
+  next-at = omega (arith, turn .loop .inv .1, add-mul (turn .loop .j) 1 (start .args .width), one-mul (start .args .width))
 
 loop-holds : tie.Need-loop-holds Inv-loop μ-loop
 loop-holds c = let a = c .before .before .before .args in (search needs, sym (zero-mul (a .width)), refl, λ i h. absurd (omega arith))
@@ -46,17 +55,18 @@ part-crossing-end c = let w = row-within c in search needs
 
 crossing-requires : tie.Need-crossing-requires Inv-loop μ-loop
 crossing-requires c κs =
-    let s = c .before .before .before .before .before .before in
-    let a = s .args in
-    let l = c .before .before .loop in
-    let long = part-length (a .width) (a .n) (l .j) (a .cells .now) (s .pre .1) (c .before .loop-test .taken) (l .at) (l .inv .1) in
-    omega (arith, long, s .pre .2 .size)
+    let i = c .before in
+    let l = turn i .loop in
+    let q = start i in
+    let s = q .args in
+    let long = part-length (s .width) (s .n) (l .j) (s .cells .now) (q .pre .1) (i .loop-test .taken) (l .at) (l .inv .1) in
+    omega (arith, long, q .pre .2 .size)
 
 mul-neighbours : tie.Need-mul-neighbours Inv-loop μ-loop
-mul-neighbours c = omega (arith, c .before .before .before .loop .inv .2, c .before .before .before .before .before .before .before .pre .3)
+mul-neighbours c = let i = c .before .before in omega (arith, turn i .loop .inv .2, start i .pre .3)
 
 slice-write-neighbours : tie.Need-slice-write-neighbours Inv-loop μ-loop
-slice-write-neighbours c = omega (arith, c .before .before .before .loop .inv .2, c .before .before .before .before .before .before .before .pre .3)
+slice-write-neighbours c = let i = c .before .before in omega (arith, turn i .loop .inv .2, start i .pre .3)
 
 add-j : tie.Need-add-j Inv-loop μ-loop
 add-j c = search needs
@@ -66,16 +76,17 @@ loop-less c = search needs
 
 loop-again : tie.Need-loop-again Inv-loop μ-loop
 loop-again c =
-    let s = c .before .before .before .before .before .before .before in
-    let a = s .args in
-    let l = c .before .before .before .loop in
-    let t = c .before .before .loop-test .taken in
-    let f = c .crossing in (
+    let f = c .crossing in
+    let i = c .before .before in
+    let l = turn i .loop in
+    let q = start i in
+    let s = q .args in
+    let seen = rows-seen (s .width) (s .n) (s .cells .now) (s .columns .now) (q .pre .0) (q .pre .1) (q .pre .2) in (
       omega arith,
-      omega (arith, l .inv .1, add-mul (l .j) 1 (a .width), one-mul (a .width)),
+      next-at i,
       length-set (l .neighbours) (l .j) (f .result) ∙ l .inv .2,
-      crossing-turn (a .width) (a .n) (l .j) (l .at) (a .cells .now) (a .columns .now) (l .neighbours) (f .result)
-          (rows-seen (a .width) (a .n) (a .cells .now) (a .columns .now) (s .pre .0) (s .pre .1) (s .pre .2)) (s .pre .1) t (l .inv .1) (omega (arith, l .inv .2, s .pre .3)) (f .ensures) (l .inv .3),
+      crossing-turn (s .width) (s .n) (l .j) (l .at) (s .cells .now) (s .columns .now) (l .neighbours) (f .result) seen
+          (q .pre .1) (i .loop-test .taken) (l .inv .1) (omega (arith, l .inv .2, q .pre .3)) (f .ensures) (l .inv .3),
     )
 
 same-length : tie.Need-same-length Inv-loop μ-loop

@@ -15,27 +15,41 @@ use Rattle.fusing.proofs.graph.narrow_columns.Tie as tie
 
 abbrev Inv-loop : tie.InvT-loop
 Inv-loop cells n width columns neighbours₀ leaders₀ equal₀ c₀ neighbours leaders equal c =
-    (c ≤ width) × (length leaders ≡ 64) × (length equal ≡ 64) × (length neighbours ≡ length neighbours₀) × NarrowedTo (rowsIn width n cells) neighbours₀ c neighbours
+    (c ≤ width) × (length leaders ≡ 64) × (length equal ≡ 64) × (length neighbours ≡ length neighbours₀)
+    × NarrowedTo (rowsIn width n cells) neighbours₀ c neighbours
 
 abbrev μ-loop : tie.MeasureT-loop
 μ-loop cells n width columns neighbours₀ leaders₀ equal₀ c₀ neighbours leaders equal c = width - c
 
--- the rows that are filled in the column are below n
-below : (c : tie.In-loop Inv-loop μ-loop) (k : ℕ) → has (getD (c .before .before .before .before .before .args .columns .now) (c .before .loop .c) 0) k ≡ true → k < c .before .before .before .before .before .args .n
-below c k h =
-    let s = c .before .before .before .before .before in
-    let a = s .args in
-    let l = c .before .loop in
-    omega (arith, filled-within (rowsIn (a .width) (a .n) (a .cells .now)) (l .c) k (ap (λ (x : ℕ). has x k) (sym (s .pre .2 .marks (l .c) (c .loop-test .taken))) ∙ h), rows-length (a .width) (a .n) (a .cells .now))
+-- in the loop
+module _ (c : tie.In-loop Inv-loop μ-loop) where
+  abbrev turn : tie.At-loop Inv-loop μ-loop
+  turn = c .before
+
+  abbrev start : tie.Start Inv-loop μ-loop
+  start = turn .before .before .before .before
+
+  -- the rows that are filled in the column are below n
+  below : (k : ℕ) → has (getD (start .args .columns .now) (turn .loop .c) 0) k ≡ true → k < start .args .n
+  below k h =
+      let s = start .args in
+      let marks = start .pre .2 .marks (turn .loop .c) (c .loop-test .taken) in
+      omega (
+        arith,
+        filled-within (rowsIn (s .width) (s .n) (s .cells .now)) (turn .loop .c) k (ap (λ (x : ℕ). has x k) (sym marks) ∙ h),
+        rows-length (s .width) (s .n) (s .cells .now),
+      )
 
 loop-holds : tie.Need-loop-holds Inv-loop μ-loop
-loop-holds c = let a = c .before .before .before .args in (search needs, search needs, search needs, refl, narrowed-none (rowsIn (a .width) (a .n) (a .cells .now)) (a .neighbours .now))
+loop-holds c =
+    let s = c .before .before .before .args in
+    (search needs, search needs, search needs, refl, narrowed-none (rowsIn (s .width) (s .n) (s .cells .now)) (s .neighbours .now))
 
 mul-filled : tie.Need-mul-filled Inv-loop μ-loop
-mul-filled c = omega (arith, c .before .before .before .before .before .pre .2 .size)
+mul-filled c = omega (arith, start c .pre .2 .size)
 
 shared-slice-read-filled : tie.Need-shared-slice-read-filled Inv-loop μ-loop
-shared-slice-read-filled c = omega (arith, c .before .before .before .before .before .before .pre .2 .size)
+shared-slice-read-filled c = omega (arith, start (c .before) .pre .2 .size)
 
 slice-aggregate-group-rows : tie.Need-slice-aggregate-group-rows Inv-loop μ-loop
 slice-aggregate-group-rows c = search needs
@@ -45,13 +59,13 @@ slice-aggregate-group-rows-2 c = search needs
 
 group-rows-requires : tie.Need-group-rows-requires Inv-loop μ-loop
 group-rows-requires c κs =
-    let s = c .before .before .before .before .before .before .before .before in
-    let a = s .args in
-    let l = c .before .before .before .before .loop in
-    let i = c .before .before .before in (
-      columns-within (a .width) (a .n) (a .cells .now) (a .columns .now) (s .pre .1) (s .pre .2) (l .c) (i .loop-test .taken),
-      λ k h. omega (arith, below i k h, l .inv .1, s .pre .0),
-      λ k h. omega (arith, below i k h, l .inv .2, s .pre .0),
+    let i = c .before .before .before in
+    let l = turn i .loop in
+    let q = start i in
+    let s = q .args in (
+      columns-within (s .width) (s .n) (s .cells .now) (s .columns .now) (q .pre .1) (q .pre .2) (l .c) (i .loop-test .taken),
+      λ k h. omega (arith, below i k h, l .inv .1, q .pre .0),
+      λ k h. omega (arith, below i k h, l .inv .2, q .pre .0),
     )
 
 slice-aggregate-narrow-rows : tie.Need-slice-aggregate-narrow-rows Inv-loop μ-loop
@@ -62,13 +76,13 @@ slice-aggregate-narrow-rows-2 c = search needs
 
 narrow-rows-requires : tie.Need-narrow-rows-requires Inv-loop μ-loop
 narrow-rows-requires c κs =
-    let s = c .before .before .before .before .before .before .before .before .before .before .before .before .before .before in
-    let l = c .before .before .before .before .before .before .before .before .before .before .loop in
-    let i = c .before .before .before .before .before .before .before .before .before in
-    let g = c .before .before .before .before .before .group-rows in (
-      g .ensures .led,
-      λ k h. omega (arith, below i k h, g .kept .1 .1 .1 .1 .0, l .inv .1, s .pre .0),
-      λ k h. omega (arith, below i k h, l .inv .3, s .pre .3),
+    let g = c .before .before .before .before .before in
+    let i = g .before .before .before .before in
+    let l = turn i .loop in
+    let q = start i in (
+      g .group-rows .ensures .led,
+      λ k h. omega (arith, below i k h, g .group-rows .kept .1 .1 .1 .1 .0, l .inv .1, q .pre .0),
+      λ k h. omega (arith, below i k h, l .inv .3, q .pre .3),
     )
 
 add-c : tie.Need-add-c Inv-loop μ-loop
@@ -79,17 +93,18 @@ loop-less c = search needs
 
 loop-again : tie.Need-loop-again Inv-loop μ-loop
 loop-again c =
-    let s = c .before .before .before .before .before .before .before .before .before .before .before .before .before .before .before .before .before in
-    let a = s .args in
-    let l = c .before .before .before .before .before .before .before .before .before .before .before .before .before .loop in
-    let g = c .before .before .before .before .before .before .before .before .group-rows in
-    let n = c .before .before .narrow-rows in (
+    let n = c .before .before in
+    let g = n .before .before .before .before .before .before in
+    let i = g .before .before .before .before in
+    let l = turn i .loop in
+    let q = start i in
+    let s = q .args in (
       search needs,
-      g .kept .1 .1 .1 .1 .0 ∙ l .inv .1,
-      g .kept .1 .1 .1 .1 .1 .0 ∙ l .inv .2,
-      n .kept .1 .1 .1 .0 ∙ l .inv .3,
-      narrowed-turn (a .width) (a .n) (a .cells .now) (a .columns .now) (a .neighbours .now) (s .pre .0) (s .pre .1) (s .pre .2) (l .c) _ _ _ (l .neighbours) _ (c .before .before .before .before .before .before .before .before .before .before .before .before .loop-test .taken) refl
-          (g .ensures) (n .ensures) (l .inv .4),
+      g .group-rows .kept .1 .1 .1 .1 .0 ∙ l .inv .1,
+      g .group-rows .kept .1 .1 .1 .1 .1 .0 ∙ l .inv .2,
+      n .narrow-rows .kept .1 .1 .1 .0 ∙ l .inv .3,
+      narrowed-turn (s .width) (s .n) (s .cells .now) (s .columns .now) (s .neighbours .now) (q .pre .0) (q .pre .1) (q .pre .2)
+          (l .c) _ _ _ (l .neighbours) _ (i .loop-test .taken) refl (g .group-rows .ensures) (n .narrow-rows .ensures) (l .inv .4),
     )
 
 same-length : tie.Need-same-length Inv-loop μ-loop
@@ -97,10 +112,11 @@ same-length c = c .before .loop .inv .3
 
 returns : tie.Need-returns Inv-loop μ-loop
 returns c =
-    let s = c .before .before .before .before .before in
-    let a = s .args in
     let l = c .before .loop in
-    narrowed-end (a .width) (a .n) (a .cells .now) (a .columns .now) (a .neighbours .now) (s .pre .0) (s .pre .1) (s .pre .2) (l .c) (l .neighbours) (search needs) (l .inv .4)
+    let q = c .before .before .before .before .before in
+    let s = q .args in
+    narrowed-end (s .width) (s .n) (s .cells .now) (s .columns .now) (s .neighbours .now) (q .pre .0) (q .pre .1) (q .pre .2)
+    (l .c) (l .neighbours) (search needs) (l .inv .4)
 
 pub narrow-columns-spec : {M : Type 1} → statement M
 narrow-columns-spec =

@@ -2,7 +2,7 @@
 use borrow.Author.Needs.{needs}
 use mathlib.Core.Path.{_≡_}
 use mathlib.Core.Bool.{true}
-use Prim.Native.Nat.{_-_, _^_, _<_}
+use Prim.Native.Nat.{ℕ, _-_, _^_, _<_}
 use native.Mathlib.Omega.{arith}
 use lib.Bits.{and-le-r}
 use lib.Count.{trailingZeros, trailing-le}
@@ -19,25 +19,36 @@ Inv-loop filled leaders equal neighbours₀ rest₀ neighbours rest = (rest < 2 
 abbrev μ-loop : tie.MeasureT-loop
 μ-loop filled leaders equal neighbours₀ rest₀ neighbours rest = rest
 
--- the row that is narrowed is the lowest of the rest, and one of the column
-lowest-of : (c : tie.In-loop Inv-loop μ-loop) → Lowest (c .before .loop .rest) (trailingZeros 64 (c .before .loop .rest))
-lowest-of c = let l = c .before .loop in trailing-lowest 64 (l .rest) (c .loop-test .taken) (l .inv .0)
+-- in the loop
+module _ (c : tie.In-loop Inv-loop μ-loop) where
+  abbrev turn : tie.At-loop Inv-loop μ-loop
+  turn = c .before
 
-filled-row : (c : tie.In-loop Inv-loop μ-loop) → has (c .before .before .args .filled) (trailingZeros 64 (c .before .loop .rest)) ≡ true
-filled-row c = let l = c .before .loop in l .inv .1 .among (trailingZeros 64 (l .rest)) (lowest-of c .there)
+  abbrev start : tie.Start Inv-loop μ-loop
+  start = turn .before
 
--- its leader and its word are there
-led : (c : tie.In-loop Inv-loop μ-loop) → trailingZeros 64 (c .before .loop .rest) < length (c .before .before .args .leaders .now)
-led c = c .before .before .pre .1 (trailingZeros 64 (c .before .loop .rest)) (filled-row c)
+  abbrev row : ℕ
+  row = trailingZeros 64 (turn .loop .rest)
 
-grouped : (c : tie.In-loop Inv-loop μ-loop) → getD (c .before .before .args .leaders .now) (trailingZeros 64 (c .before .loop .rest)) 0 < length (c .before .before .args .equal .now)
-grouped c = c .before .before .pre .0 (trailingZeros 64 (c .before .loop .rest)) (filled-row c)
+  -- the row that is narrowed is the lowest of the rest, and one of the column
+  lowest-of : Lowest (turn .loop .rest) row
+  lowest-of = trailing-lowest 64 (turn .loop .rest) (c .loop-test .taken) (turn .loop .inv .0)
 
-found : (c : tie.In-loop Inv-loop μ-loop) → trailingZeros 64 (c .before .loop .rest) < length (c .before .before .args .neighbours .now)
-found c = c .before .before .pre .2 (trailingZeros 64 (c .before .loop .rest)) (filled-row c)
+  filled-row : has (start .args .filled) row ≡ true
+  filled-row = turn .loop .inv .1 .among row (lowest-of .there)
 
-within : (c : tie.In-loop Inv-loop μ-loop) → trailingZeros 64 (c .before .loop .rest) < length (c .before .loop .neighbours)
-within c = omega (arith, found c, c .before .loop .inv .1 .size)
+  -- its leader and its word are there
+  led : row < length (start .args .leaders .now)
+  led = start .pre .1 row filled-row
+
+  grouped : getD (start .args .leaders .now) row 0 < length (start .args .equal .now)
+  grouped = start .pre .0 row filled-row
+
+  found : row < length (start .args .neighbours .now)
+  found = start .pre .2 row filled-row
+
+  within : row < length (turn .loop .neighbours)
+  within = omega (arith, found, turn .loop .inv .1 .size)
 
 loop-holds : tie.Need-loop-holds Inv-loop μ-loop
 loop-holds c = let a = c .args in (search needs, narrow-none (a .filled) (a .leaders .now) (a .equal .now) (a .neighbours .now))
@@ -73,14 +84,17 @@ sub-rest : tie.Need-sub-rest Inv-loop μ-loop
 sub-rest c = search needs
 
 loop-less : tie.Need-loop-less Inv-loop μ-loop
-loop-less c = omega (arith, and-le-r (c .before .before .before .before .loop .rest) (c .before .before .before .before .loop .rest - 1))
+loop-less c =
+    let l = c .before .before .before .before .loop in
+    omega (arith, and-le-r (l .rest) (l .rest - 1))
 
 loop-again : tie.Need-loop-again Inv-loop μ-loop
 loop-again c =
-    let a = c .before .before .before .before .before .args in
-    let l = c .before .before .before .before .loop in (
+    let i = c .before .before .before in
+    let l = turn i .loop in
+    let s = start i .args in (
       omega (arith, and-le-r (l .rest) (l .rest - 1), l .inv .0),
-      narrow-turn (a .filled) (a .leaders .now) (a .equal .now) (a .neighbours .now) (l .rest) (trailingZeros 64 (l .rest)) (l .neighbours) (lowest-of (c .before .before .before)) (found (c .before .before .before)) (l .inv .1),
+      narrow-turn (s .filled) (s .leaders .now) (s .equal .now) (s .neighbours .now) (l .rest) (row i) (l .neighbours) (lowest-of i) (found i) (l .inv .1),
     )
 
 same-length : tie.Need-same-length Inv-loop μ-loop

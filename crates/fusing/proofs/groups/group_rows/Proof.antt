@@ -2,11 +2,11 @@
 use borrow.Author.Needs.{needs}
 use mathlib.Core.Path.{_≡_, refl, _∙_}
 use mathlib.Core.Bool.{true}
-use Prim.Native.Nat.{_+_, _-_, _*_, _%_, _^_, _<_}
+use Prim.Native.Nat.{ℕ, _+_, _-_, _*_, _%_, _^_, _<_}
 use native.Mathlib.Omega.{arith}
-use lib.Bits.{and-le-r}
+use lib.Bits.{and-le-r, bitAnd}
 use lib.Count.{trailingZeros, trailing-le}
-use lib.ListN.{length, length-set}
+use lib.ListN.{length, length-set, getD}
 use Rattle.bitsets.specs.Bits.{has}
 use Rattle.bitsets.proofs.Bits.{Lowest, trailing-lowest, digit-below}
 use Rattle.fusing.specs.Groups.{cellIn}
@@ -22,42 +22,53 @@ Inv-loop cells width c filled leaders₀ equal₀ marks₀ rest₀ leaders equal
 abbrev μ-loop : tie.MeasureT-loop
 μ-loop cells width c filled leaders₀ equal₀ marks₀ rest₀ leaders equal marks rest = rest
 
--- the next row is the lowest of the rest, and one of the column
-lowest-of : (c : tie.In-loop Inv-loop μ-loop) → Lowest (c .before .loop .rest) (trailingZeros 64 (c .before .loop .rest))
-lowest-of c = let l = c .before .loop in trailing-lowest 64 (l .rest) (c .loop-test .taken) (l .inv .0)
+-- in the loop
+module _ (c : tie.In-loop Inv-loop μ-loop) where
+  abbrev turn : tie.At-loop Inv-loop μ-loop
+  turn = c .before
 
-small : (c : tie.In-loop Inv-loop μ-loop) → trailingZeros 64 (c .before .loop .rest) < 64
-small c = let l = c .before .loop in digit-below 64 (l .rest) (trailingZeros 64 (l .rest)) (l .inv .0) (lowest-of c .there)
+  abbrev start : tie.Start Inv-loop μ-loop
+  start = turn .before .before .before .before
 
-filled-row : (c : tie.In-loop Inv-loop μ-loop) → has (c .before .before .before .before .before .args .filled) (trailingZeros 64 (c .before .loop .rest)) ≡ true
-filled-row c = let l = c .before .loop in l .inv .4 .among (trailingZeros 64 (l .rest)) (lowest-of c .there)
+  -- the next row, and the column's cells
+  abbrev row : ℕ
+  row = trailingZeros 64 (turn .loop .rest)
 
--- its cell, its leader and its word are there
-within : (c : tie.In-loop Inv-loop μ-loop) → trailingZeros 64 (c .before .loop .rest) * c .before .before .before .before .before .args .width + c .before .before .before .before .before .args .c < length (c .before .before .before .before .before .args .cells .now)
-within c = c .before .before .before .before .before .pre .0 (trailingZeros 64 (c .before .loop .rest)) (filled-row c)
+  abbrev cell : ℕ → ℕ
+  cell = cellIn (start .args .width) (start .args .cells .now) (start .args .c)
 
-space : (c : tie.In-loop Inv-loop μ-loop) → trailingZeros 64 (c .before .loop .rest) < length (c .before .loop .leaders)
-space c = omega (arith, c .before .before .before .before .before .pre .1 (trailingZeros 64 (c .before .loop .rest)) (filled-row c), c .before .loop .inv .1)
+  -- the row is the lowest of the rest, and one of the column
+  lowest-of : Lowest (turn .loop .rest) row
+  lowest-of = trailing-lowest 64 (turn .loop .rest) (c .loop-test .taken) (turn .loop .inv .0)
 
-room : (c : tie.In-loop Inv-loop μ-loop) → trailingZeros 64 (c .before .loop .rest) < length (c .before .loop .equal)
-room c = omega (arith, c .before .before .before .before .before .pre .2 (trailingZeros 64 (c .before .loop .rest)) (filled-row c), c .before .loop .inv .2)
+  small : row < 64
+  small = digit-below 64 (turn .loop .rest) row (turn .loop .inv .0) (lowest-of .there)
 
--- and so is the word of another row that leads it
-led-room : (c : tie.Else1 Inv-loop μ-loop) → c .before .leader .result < length (c .before .before .before .before .loop .equal)
-led-room c =
-    let s = c .before .before .before .before .before .before .before .before in
-    let a = s .args in
-    let l = c .before .before .before .before .loop in
-    let i = c .before .before .before in
-    let j = trailingZeros 64 (l .rest) in
-    let d = cellIn (a .width) (a .cells .now) (a .c) j % 16 in
-    omega (
-      arith,
-      s .pre .2 (c .before .leader .result)
-          (marked-filled (cellIn (a .width) (a .cells .now) (a .c)) (a .filled) (l .rest) (l .marks) (l .leaders) (l .equal) (l .inv .4) j (lowest-of i) d (c .before .leader .result) (omega arith)
-          (c .before .leader .ensures .found (c .if1 .left) .0)),
-      l .inv .2,
-    )
+  filled-row : has (start .args .filled) row ≡ true
+  filled-row = turn .loop .inv .4 .among row (lowest-of .there)
+
+  -- its cell, its leader and its word are there
+  within : row * start .args .width + start .args .c < length (start .args .cells .now)
+  within = start .pre .0 row filled-row
+
+  space : row < length (turn .loop .leaders)
+  space = omega (arith, start .pre .1 row filled-row, turn .loop .inv .1)
+
+  room : row < length (turn .loop .equal)
+  room = omega (arith, start .pre .2 row filled-row, turn .loop .inv .2)
+
+  -- and so is the word of another row that may lead it
+  marked-room : (k : ℕ) → has (getD (turn .loop .marks) (cell row % 16) 0) k ≡ true → k < length (turn .loop .equal)
+  marked-room k m =
+      let filled = marked-filled (turn .loop .inv .4) lowest-of (cell row % 16) k (omega arith) m in
+      omega (arith, start .pre .2 k filled, turn .loop .inv .2)
+
+  -- the rest gets smaller
+  rest-small : bitAnd (turn .loop .rest) (turn .loop .rest - 1) < turn .loop .rest
+  rest-small = omega (arith, and-le-r (turn .loop .rest) (turn .loop .rest - 1))
+
+led-room : (c : tie.Else1 Inv-loop μ-loop) → c .before .leader .result < length (turn (c .before .before .before) .loop .equal)
+led-room c = marked-room (c .before .before .before) (c .before .leader .result) (c .before .leader .ensures .found (c .if1 .left) .0)
 
 loop-holds : tie.Need-loop-holds Inv-loop μ-loop
 loop-holds c =
@@ -90,14 +101,10 @@ array-read-leader c = search needs
 
 leader-requires : tie.Need-leader-requires Inv-loop μ-loop
 leader-requires c κs =
-    let s = c .before .before .before .before .before .before in
-    let a = s .args in
-    let l = c .before .before .loop in
     let i = c .before in
-    let j = trailingZeros 64 (l .rest) in
-    let d = cellIn (a .width) (a .cells .now) (a .c) j % 16 in (
-      λ k m. s .pre .0 k (marked-filled (cellIn (a .width) (a .cells .now) (a .c)) (a .filled) (l .rest) (l .marks) (l .leaders) (l .equal) (l .inv .4) j (lowest-of i) d k (omega arith) m),
-      next-unmarked (cellIn (a .width) (a .cells .now) (a .c)) (a .filled) (l .rest) (l .marks) (l .leaders) (l .equal) (l .inv .4) j (lowest-of i) d (omega arith),
+    let d = cell i (row i) % 16 in (
+      λ k m. start i .pre .0 k (marked-filled (turn i .loop .inv .4) (lowest-of i) d k (omega arith) m),
+      next-unmarked (turn i .loop .inv .4) (lowest-of i) d (omega arith),
     )
 
 mul-leaders : tie.Need-mul-leaders Inv-loop μ-loop
@@ -134,20 +141,18 @@ sub-rest : tie.Need-sub-rest Inv-loop μ-loop
 sub-rest c = search needs
 
 loop-less : tie.Need-loop-less Inv-loop μ-loop
-loop-less c = omega (arith, and-le-r (c .before .before .before .before .loop .rest) (c .before .before .before .before .loop .rest - 1))
+loop-less c = rest-small (c .before .before .before)
 
 loop-again : tie.Need-loop-again Inv-loop μ-loop
 loop-again c =
-    let a = c .before .before .before .before .before .before .before .before .args in
-    let l = c .before .before .before .before .loop in
-    let i = c .before .before .before in
-    let j = trailingZeros 64 (l .rest) in (
-      omega (arith, and-le-r (l .rest) (l .rest - 1), l .inv .0),
-      length-set (l .leaders) j _ ∙ l .inv .1,
-      length-set (l .equal) j _ ∙ l .inv .2,
+    let k = c .before in
+    let i = k .before .before in
+    let l = turn i .loop in (
+      omega (arith, rest-small i, l .inv .0),
+      length-set (l .leaders) (row i) _ ∙ l .inv .1,
+      length-set (l .equal) (row i) _ ∙ l .inv .2,
       length-set (l .marks) _ _ ∙ l .inv .3,
-      group-new (cellIn (a .width) (a .cells .now) (a .c)) (a .filled) (l .rest) (l .marks) (l .leaders) (l .equal) (l .inv .4) j (lowest-of i) (small i) (space i)
-          (c .before .leader .result) (c .before .leader .ensures) (c .if1 .taken) (room i) (l .inv .3),
+      group-new (l .inv .4) (lowest-of i) (small i) (space i) (k .leader .result) (k .leader .ensures) (c .if1 .taken) (room i) (l .inv .3),
     )
 
 mul-equal-2 : tie.Need-mul-equal-2 Inv-loop μ-loop
@@ -169,20 +174,18 @@ sub-rest-2 : tie.Need-sub-rest-2 Inv-loop μ-loop
 sub-rest-2 c = search needs
 
 loop-less-2 : tie.Need-loop-less-2 Inv-loop μ-loop
-loop-less-2 c = omega (arith, and-le-r (c .before .before .before .before .before .loop .rest) (c .before .before .before .before .before .loop .rest - 1))
+loop-less-2 c = rest-small (c .before .before .before .before)
 
 loop-again-2 : tie.Need-loop-again-2 Inv-loop μ-loop
 loop-again-2 c =
-    let a = c .before .before .before .before .before .before .before .before .before .args in
-    let l = c .before .before .before .before .before .loop in
-    let i = c .before .before .before .before in
-    let j = trailingZeros 64 (l .rest) in (
-      omega (arith, and-le-r (l .rest) (l .rest - 1), l .inv .0),
-      length-set (l .leaders) j _ ∙ l .inv .1,
+    let k = c .before .before in
+    let i = k .before .before in
+    let l = turn i .loop in (
+      omega (arith, rest-small i, l .inv .0),
+      length-set (l .leaders) (row i) _ ∙ l .inv .1,
       length-set (l .equal) _ _ ∙ l .inv .2,
       l .inv .3,
-      group-more (cellIn (a .width) (a .cells .now) (a .c)) (a .filled) (l .rest) (l .marks) (l .leaders) (l .equal) (l .inv .4) j (lowest-of i) (small i) (space i)
-          (c .before .before .leader .result) (c .before .before .leader .ensures) (c .before .if1 .left) (led-room (c .before)),
+      group-more (l .inv .4) (lowest-of i) (small i) (space i) (k .leader .result) (k .leader .ensures) (c .before .if1 .left) (led-room (c .before)),
     )
 
 same-length : tie.Need-same-length Inv-loop μ-loop
@@ -193,10 +196,11 @@ same-length-2 c = c .before .loop .inv .2
 
 returns : tie.Need-returns Inv-loop μ-loop
 returns c =
-    let s = c .before .before .before .before .before in
-    let a = s .args in
     let l = c .before .loop in
-    group-end (cellIn (a .width) (a .cells .now) (a .c)) (a .filled) (l .rest) (l .marks) (l .leaders) (l .equal) (c .loop-test .left) (λ k h. omega (arith, s .pre .2 k h, l .inv .2)) (l .inv .4)
+    let q = c .before .before .before .before .before in
+    let s = q .args in
+    group-end (cellIn (s .width) (s .cells .now) (s .c)) (s .filled) (l .rest) (l .marks) (l .leaders) (l .equal) (c .loop-test .left)
+    (λ k h. omega (arith, q .pre .2 k h, l .inv .2)) (l .inv .4)
 
 pub group-rows-spec : {M : Type 1} → statement M
 group-rows-spec =

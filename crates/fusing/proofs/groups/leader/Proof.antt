@@ -1,6 +1,6 @@
 -- `leader` meets its contract. The loop's invariant: those of the rows that are not in the rest have another cell.
 use borrow.Author.Needs.{needs}
-use Prim.Native.Nat.{_+_, _-_, _*_, _^_, _<_}
+use Prim.Native.Nat.{ℕ, _+_, _-_, _*_, _^_, _<_}
 use native.Mathlib.Omega.{arith}
 use lib.Bits.{and-le-r}
 use lib.Count.{trailingZeros, trailing-le}
@@ -17,12 +17,23 @@ Inv-loop cells width c cell rows j rest₀ rest = (rest < 2 ^ 64) × Seeking (ce
 abbrev μ-loop : tie.MeasureT-loop
 μ-loop cells width c cell rows j rest₀ rest = rest
 
--- the row that is compared is the lowest of the rest, and its cell is there
-lowest-of : (c : tie.In-loop Inv-loop μ-loop) → Lowest (c .before .loop .rest) (trailingZeros 64 (c .before .loop .rest))
-lowest-of c = let l = c .before .loop in trailing-lowest 64 (l .rest) (c .loop-test .taken) (l .inv .0)
+-- in the loop
+module _ (c : tie.In-loop Inv-loop μ-loop) where
+  abbrev turn : tie.At-loop Inv-loop μ-loop
+  turn = c .before
 
-within : (c : tie.In-loop Inv-loop μ-loop) → trailingZeros 64 (c .before .loop .rest) * c .before .before .args .width + c .before .before .args .c < length (c .before .before .args .cells .now)
-within c = let l = c .before .loop in c .before .before .pre .0 (trailingZeros 64 (l .rest)) (l .inv .1 .among (trailingZeros 64 (l .rest)) (lowest-of c .there))
+  abbrev start : tie.Start Inv-loop μ-loop
+  start = turn .before
+
+  abbrev row : ℕ
+  row = trailingZeros 64 (turn .loop .rest)
+
+  -- the row that is compared is the lowest of the rest, and its cell is there
+  lowest-of : Lowest (turn .loop .rest) row
+  lowest-of = trailing-lowest 64 (turn .loop .rest) (c .loop-test .taken) (turn .loop .inv .0)
+
+  within : row * start .args .width + start .args .c < length (start .args .cells .now)
+  within = start .pre .0 row (turn .loop .inv .1 .among row (lowest-of .there))
 
 loop-holds : tie.Need-loop-holds Inv-loop μ-loop
 loop-holds c =
@@ -46,23 +57,27 @@ shared-slice-read-if1 c = within (c .before)
 
 returns : tie.Need-returns Inv-loop μ-loop
 returns c =
-    let s = c .before .before .before .before in
-    let a = s .args in
-    let l = c .before .before .before .loop in
-    seek-found (cellIn (a .width) (a .cells .now) (a .c)) (a .cell) (a .rows) (a .j) (l .rest) (trailingZeros 64 (l .rest)) (s .pre .1) (lowest-of (c .before .before)) (c .if1 .taken) (l .inv .1)
+    let i = c .before .before in
+    let l = turn i .loop in
+    let q = start i in
+    let s = q .args in
+    seek-found (cellIn (s .width) (s .cells .now) (s .c)) (s .cell) (s .rows) (s .j) (l .rest) (row i) (q .pre .1) (lowest-of i) (c .if1 .taken) (l .inv .1)
 
 sub-rest : tie.Need-sub-rest Inv-loop μ-loop
 sub-rest c = search needs
 
 loop-less : tie.Need-loop-less Inv-loop μ-loop
-loop-less c = omega (arith, and-le-r (c .before .before .before .loop .rest) (c .before .before .before .loop .rest - 1))
+loop-less c =
+    let l = c .before .before .before .loop in
+    omega (arith, and-le-r (l .rest) (l .rest - 1))
 
 loop-again : tie.Need-loop-again Inv-loop μ-loop
 loop-again c =
-    let a = c .before .before .before .before .args in
-    let l = c .before .before .before .loop in (
+    let i = c .before .before in
+    let l = turn i .loop in
+    let s = start i .args in (
       omega (arith, and-le-r (l .rest) (l .rest - 1), l .inv .0),
-      seek-turn (cellIn (a .width) (a .cells .now) (a .c)) (a .cell) (a .rows) (l .rest) (trailingZeros 64 (l .rest)) (lowest-of (c .before .before)) (c .if1 .left) (l .inv .1),
+      seek-turn (cellIn (s .width) (s .cells .now) (s .c)) (s .cell) (s .rows) (l .rest) (row i) (lowest-of i) (c .if1 .left) (l .inv .1),
     )
 
 returns-2 : tie.Need-returns-2 Inv-loop μ-loop

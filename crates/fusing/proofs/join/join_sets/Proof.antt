@@ -26,7 +26,8 @@ loop-holds c =
     let a = s .args in (
       search needs,
       sym (zero-mul (a .width)),
-      joins-none (a .width) (a .n) (a .count) (a .cells .now) (a .columns .now) (a .sets .now) (a .out .now) (s .pre .0) (s .pre .1) (s .pre .2) (s .pre .3) (s .pre .4),
+      joins-none (a .width) (a .n) (a .count) (a .cells .now) (a .columns .now) (a .sets .now) (a .out .now)
+          (s .pre .0) (s .pre .1) (s .pre .2) (s .pre .3) (s .pre .4),
     )
 
 mul-join-set : tie.Need-mul-join-set Inv-loop μ-loop
@@ -65,7 +66,8 @@ loop-again c =
     let j = c .before .before .join-set in (
       search needs,
       omega (arith, l .inv .1, add-mul (l .k) 1 (a .width), one-mul (a .width)),
-      joins-turn (a .width) (a .n) (a .count) (a .cells .now) (a .columns .now) (a .sets .now) (a .out .now) (s .pre .0) (s .pre .1) (s .pre .2) (s .pre .3) (s .pre .4)
+      joins-turn (a .width) (a .n) (a .count) (a .cells .now) (a .columns .now) (a .sets .now) (a .out .now)
+          (s .pre .0) (s .pre .1) (s .pre .2) (s .pre .3) (s .pre .4)
           (l .k) (l .at) (l .out) _ (search needs) (l .inv .1) (l .inv .2) (j .ensures),
     )
 
@@ -77,7 +79,8 @@ returns c =
     let s = c .before .before .before .before .before .before in
     let a = s .args in
     let l = c .before .loop in
-    joins-end (a .width) (a .n) (a .count) (a .cells .now) (a .columns .now) (a .sets .now) (a .out .now) (s .pre .0) (s .pre .1) (s .pre .2) (s .pre .3) (s .pre .4)
+    joins-end (a .width) (a .n) (a .count) (a .cells .now) (a .columns .now) (a .sets .now) (a .out .now)
+    (s .pre .0) (s .pre .1) (s .pre .2) (s .pre .3) (s .pre .4)
     (l .k) (l .out) (omega arith) (l .inv .2)
 
 pub join-sets-spec : {M : Type 1} → statement M

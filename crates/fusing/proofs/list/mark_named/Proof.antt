@@ -67,8 +67,10 @@ loop-again c =
     let s = c .before .before .before .before .before .before .before .before .before in
     let a = s .args in
     let l = c .before .before .loop in
-    let e = c .before .before .before .before .before .clear-places .ensures in
-    (search needs, placed-turn (a .order .now) (a .m) (a .count) _ (l .places) (l .j) (search needs) (s .pre .1) (s .pre .2) (omega (arith, e .size)) (l .inv .1))
+    let e = c .before .before .before .before .before .clear-places .ensures in (
+      search needs,
+      placed-turn (a .order .now) (a .m) (a .count) _ (l .places) (l .j) (search needs) (s .pre .1) (s .pre .2) (omega (arith, e .size)) (l .inv .1),
+    )
 
 same-length : tie.Need-same-length Inv-loop μ-loop
 same-length c = c .before .loop .inv .1 .size ∙ c .before .before .before .before .clear-places .ensures .size

@@ -17,7 +17,9 @@ abbrev μ-loop : tie.MeasureT-loop
 μ-loop buffer₀ at set row rest₀ i₀ buffer rest i = 3 - i
 
 loop-holds : tie.Need-loop-holds Inv-loop μ-loop
-loop-holds c = let a = c .before .args in (search needs, paste-none (a .buffer .now) (a .at) (recordOf (a .set) (a .row)), marks-start (a .set) (a .row))
+loop-holds c =
+    let s = c .before .args in
+    (search needs, paste-none (s .buffer .now) (s .at) (recordOf (s .set) (s .row)), marks-start (s .set) (s .row))
 
 mark-word-requires : tie.Need-mark-word-requires Inv-loop μ-loop
 mark-word-requires c κs = search needs
@@ -39,14 +41,14 @@ loop-less c = search needs
 
 loop-again : tie.Need-loop-again Inv-loop μ-loop
 loop-again c =
-    let s = c .before .before .before .before in
-    let a = s .args in
     let l = c .before .before .loop in
-    let size = record-length (a .set) (a .row) in (
+    let s = c .before .before .before .before .args in
+    let record-words = recordOf (s .set) (s .row) in
+    let size = record-length (s .set) (s .row) in (
       search needs,
-      paste-turn (a .buffer .now) (a .at) (recordOf (a .set) (a .row)) (l .i) (a .at + l .i) (l .buffer) 0 (c .mark-word .result) (l .inv .1) refl (omega arith) (omega arith)
-          (c .mark-word .ensures ∙ mark-here (a .set) (a .row) (l .i) (l .rest) (l .inv .2) (search needs)),
-      marks-left (a .set) (a .row) (l .i) (l .rest) (l .inv .2) (search needs),
+      paste-turn (s .buffer .now) (s .at) record-words (l .i) (s .at + l .i) (l .buffer) 0 (c .mark-word .result) (l .inv .1) refl (omega arith) (omega arith)
+          (c .mark-word .ensures ∙ mark-here (s .set) (s .row) (l .i) (l .rest) (l .inv .2) (search needs)),
+      marks-left (s .set) (s .row) (l .i) (l .rest) (l .inv .2) (search needs),
     )
 
 word-of-requires : tie.Need-word-of-requires Inv-loop μ-loop
@@ -62,18 +64,21 @@ slice-write-buffer-2 : tie.Need-slice-write-buffer-2 Inv-loop μ-loop
 slice-write-buffer-2 c = omega (arith, c .before .before .before .before .pre .0, c .before .before .loop .inv .1 .size)
 
 same-length : tie.Need-same-length Inv-loop μ-loop
-same-length c = let l = c .before .before .loop in length-set (l .buffer) (c .before .before .before .before .args .at + 3) (c .word-of .result) ∙ l .inv .1 .size
+same-length c =
+    let l = c .before .before .loop in
+    let s = c .before .before .before .before .args in
+    length-set (l .buffer) (s .at + 3) (c .word-of .result) ∙ l .inv .1 .size
 
 returns : tie.Need-returns Inv-loop μ-loop
 returns c =
-    let s = c .before .before .before .before in
-    let a = s .args in
     let l = c .before .before .loop in
-    let size = record-length (a .set) (a .row) in
+    let s = c .before .before .before .before .args in
+    let record-words = recordOf (s .set) (s .row) in
+    let size = record-length (s .set) (s .row) in
     let last : l .i ≡ 3 = omega arith in
-    paste-all (a .buffer .now) (a .at) (recordOf (a .set) (a .row)) (l .i + 1) 4 (set (l .buffer) (a .at + 3) (c .word-of .result))
-    (paste-turn (a .buffer .now) (a .at) (recordOf (a .set) (a .row)) (l .i) (a .at + 3) (l .buffer) 0 (c .word-of .result) (l .inv .1) (omega arith) (omega arith) (omega arith)
-    (c .word-of .ensures ∙ row-here (a .set) (a .row) (l .i) (l .rest) (l .inv .2) last))
+    paste-all (s .buffer .now) (s .at) record-words (l .i + 1) 4 (set (l .buffer) (s .at + 3) (c .word-of .result))
+    (paste-turn (s .buffer .now) (s .at) record-words (l .i) (s .at + 3) (l .buffer) 0 (c .word-of .result) (l .inv .1)
+    (omega arith) (omega arith) (omega arith) (c .word-of .ensures ∙ row-here (s .set) (s .row) (l .i) (l .rest) (l .inv .2) last))
     (omega arith)
 
 pub write-record-spec : {M : Type 1} → statement M

@@ -1,8 +1,8 @@
 -- `write_sets` meets its contract. The loop's invariant: the records of the first k sets stand after the header.
 use borrow.Author.Needs.{needs}
-use mathlib.Core.Path.{_≡_, refl, _∙_}
-use mathlib.Core.List.{flatten}
-use Prim.Native.Nat.{_+_, _-_, _*_, _≤_, _<_}
+use mathlib.Core.Path.{_≡_, refl, _∙_, subst}
+use mathlib.Core.List.{List, flatten}
+use Prim.Native.Nat.{ℕ, _+_, _-_, _*_, _≤_, _<_}
 use native.Mathlib.Omega.{arith}
 use lib.ListN.{length, getD, set, take, length-set}
 use lib.Seq.{length-take-le, getD-take}
@@ -14,12 +14,42 @@ use Rattle.fusing.proofs.Records.{records-turn, records-end}
 use Rattle.fusing.proofs.list.write_sets.Statement.{statement}
 use Rattle.fusing.proofs.list.write_sets.Tie as tie
 
+-- the words of the records of all sets
+abbrev all-records : List ℕ → List ℕ → ℕ → List ℕ
+all-records sets places count = flatten (recordsOf (take count sets) (take count places))
+
 abbrev Inv-loop : tie.InvT-loop
 Inv-loop buffer₀ sets places count k₀ at₀ buffer k at =
-    (k ≤ count) × (at ≡ 1 + k * setWidth) × Pasted buffer₀ 1 (flatten (recordsOf (take count sets) (take count places))) (k * setWidth) buffer
+    (k ≤ count) × (at ≡ 1 + k * setWidth) × Pasted buffer₀ 1 (all-records sets places count) (k * setWidth) buffer
 
 abbrev μ-loop : tie.MeasureT-loop
 μ-loop buffer₀ sets places count k₀ at₀ buffer k at = count - k
+
+-- in the loop
+module _ (c : tie.In-loop Inv-loop μ-loop) where
+  abbrev turn : tie.At-loop Inv-loop μ-loop
+  turn = c .before
+
+  abbrev headed : tie.After-header-word Inv-loop μ-loop
+  headed = turn .before
+
+  abbrev start : tie.Start Inv-loop μ-loop
+  start = headed .before .before .before .before
+
+  -- the header leaves the buffer's length
+  headed-size : length (set (start .args .buffer .now) 0 (headed .header-word .result)) ≡ length (start .args .buffer .now)
+  headed-size = length-set (start .args .buffer .now) 0 (headed .header-word .result)
+
+  more : turn .loop .k < start .args .count
+  more = search needs
+
+  -- the place of the set's joined row is below the limit
+  place-small : getD (start .args .places .now) (turn .loop .k) 0 < maxSets
+  place-small =
+      let s = start .args in
+      let size : length (take (s .count) (s .places .now)) ≡ s .count = length-take-le (s .count) (s .places .now) (start .pre .2) in
+      subst (λ (p : ℕ). p < maxSets) (getD-take (s .count) (s .places .now) (turn .loop .k) 0 more)
+      (below-at maxSets (take (s .count) (s .places .now)) (turn .loop .k) (start .pre .3) (omega (arith, size, more)))
 
 cast-header-word : tie.Need-cast-header-word Inv-loop μ-loop
 cast-header-word c = search needs
@@ -34,7 +64,12 @@ slice-write-buffer : tie.Need-slice-write-buffer Inv-loop μ-loop
 slice-write-buffer c = search needs
 
 loop-holds : tie.Need-loop-holds Inv-loop μ-loop
-loop-holds c = let a = c .before .before .before .before .args in (search needs, refl, paste-none (set (a .buffer .now) 0 (c .header-word .result)) 1 (flatten (recordsOf (take (a .count) (a .sets .now)) (take (a .count) (a .places .now)))))
+loop-holds c =
+    let s = c .before .before .before .before .args in (
+      search needs,
+      refl,
+      paste-none (set (s .buffer .now) 0 (c .header-word .result)) 1 (all-records (s .sets .now) (s .places .now) (s .count)),
+    )
 
 mul-write-record : tie.Need-mul-write-record Inv-loop μ-loop
 mul-write-record c = search needs
@@ -50,18 +85,14 @@ shared-slice-read-write-record-2 c = search needs
 
 write-record-requires : tie.Need-write-record-requires Inv-loop μ-loop
 write-record-requires c κs =
-    let s = c .before .before .before .before .before .before .before .before .before in
-    let a = s .args in
-    let l = c .before .before .before .before .loop in
-    let h = c .before .before .before .before .before .header-word in
-    let size : length (take (a .count) (a .places .now)) ≡ a .count = length-take-le (a .count) (a .places .now) (s .pre .2) in
-    let more : l .k < a .count = search needs in
-    let row : getD (a .places .now) (l .k) 0 < maxSets =
-    rw (getD-take (a .count) (a .places .now) (l .k) 0 more) at (below-at maxSets (take (a .count) (a .places .now)) (l .k) (s .pre .3) (omega arith)) in
-    (omega (arith, l .inv .2 .size, l .inv .1, s .pre .4, length-set (s .args .buffer .now) 0 (h .result)), omega arith)
+    let i = c .before .before .before in
+    let l = turn i .loop in
+    (omega (arith, l .inv .2 .size, l .inv .1, start i .pre .4, headed-size i, more i), omega (arith, place-small i))
 
 add-at : tie.Need-add-at Inv-loop μ-loop
-add-at c = omega (arith, c .before .before .before .before .before .before .before .loop .inv .1, c .before .before .before .before .before .before .before .before .before .before .before .before .pre .0)
+add-at c =
+    let i = c .before .before .before .before .before .before in
+    omega (arith, turn i .loop .inv .1, start i .pre .0)
 
 add-k : tie.Need-add-k Inv-loop μ-loop
 add-k c = search needs
@@ -71,27 +102,32 @@ loop-less c = search needs
 
 loop-again : tie.Need-loop-again Inv-loop μ-loop
 loop-again c =
-    let s = c .before .before .before .before .before .before .before .before .before .before .before .before in
-    let a = s .args in
-    let l = c .before .before .before .before .before .before .before .loop in
-    let h = c .before .before .before .before .before .before .before .before .header-word in
-    let r = c .before .before .write-record in (
+    let r = c .before .before in
+    let i = r .before .before .before .before in
+    let l = turn i .loop in
+    let q = start i in
+    let s = q .args in
+    let headed-buffer = set (s .buffer .now) 0 (headed i .header-word .result) in (
       search needs,
       omega (arith, l .inv .1),
-      records-turn (a .count) (a .sets .now) (a .places .now) (a .buffer .now) (s .pre .1) (s .pre .2) (s .pre .4) (set (a .buffer .now) 0 (h .result)) (l .buffer) (r .last .0)
-          (l .k) (l .at) (length-set (s .args .buffer .now) 0 (h .result)) (search needs) (l .inv .1) (l .inv .2) (r .ensures),
+      records-turn (s .count) (s .sets .now) (s .places .now) (s .buffer .now) (q .pre .1) (q .pre .2) (q .pre .4) headed-buffer
+          (l .buffer) (r .write-record .last .0) (l .k) (l .at) (headed-size i) (more i) (l .inv .1) (l .inv .2) (r .write-record .ensures),
     )
 
 same-length : tie.Need-same-length Inv-loop μ-loop
-same-length c = let s = c .before .before .before .before .before .before in c .before .loop .inv .2 .size ∙ length-set (s .args .buffer .now) 0 (c .before .before .header-word .result)
+same-length c =
+    let h = c .before .before in
+    let s = h .before .before .before .before .args in
+    c .before .loop .inv .2 .size ∙ length-set (s .buffer .now) 0 (h .header-word .result)
 
 returns : tie.Need-returns Inv-loop μ-loop
 returns c =
-    let s = c .before .before .before .before .before .before in
-    let a = s .args in
     let l = c .before .loop in
-    let h = c .before .before .header-word in
-    records-end (a .count) (a .sets .now) (a .places .now) (a .buffer .now) (s .pre .1) (s .pre .2) (s .pre .4) (l .buffer) (h .result) (l .k) (omega arith) (h .ensures) (l .inv .2)
+    let h = c .before .before in
+    let q = h .before .before .before .before in
+    let s = q .args in
+    records-end (s .count) (s .sets .now) (s .places .now) (s .buffer .now) (q .pre .1) (q .pre .2) (q .pre .4)
+    (l .buffer) (h .header-word .result) (l .k) (omega arith) (h .header-word .ensures) (l .inv .2)
 
 pub write-sets-spec : {M : Type 1} → statement M
 write-sets-spec =

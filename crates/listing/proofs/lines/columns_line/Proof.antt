@@ -38,11 +38,12 @@ put-text-requires : tie.Need-put-text-requires Inv-loop μ-loop
 put-text-requires c κs = omega arith
 
 loop-holds : tie.Need-loop-holds Inv-loop μ-loop
-loop-holds c = (
-  omega arith,
-  omega (arith, c .put-text .ensures .ends),
-  line-starts (map idText (c .before .before .before .before .args .columns .now)) (c .put-text .ensures) ∙ ids-line (c .before .before .before .before .args .columns .now),
-)
+loop-holds c =
+    let s = c .before .before .before .before .args in (
+      omega arith,
+      omega (arith, c .put-text .ensures .ends),
+      line-starts (map idText (s .columns .now)) (c .put-text .ensures) ∙ ids-line (s .columns .now),
+    )
 
 mul-id : tie.Need-mul-id Inv-loop μ-loop
 mul-id c = search needs
@@ -73,7 +74,8 @@ loop-again c =
     let columns = turned .before .before .before .before .before .args .columns .now in (
       omega arith,
       omega (arith, id-length (getD columns (turned .loop .i) 0) (c .before .id .ensures)),
-      fields-turn idText columns (turned .loop .i) (omega arith) (as-written (ap (λ (n : ℕ). 32 ∷ decimal n) (c .before .id .ensures)) (c .next-number .ensures)) (turned .loop .inv .2),
+      fields-turn idText columns (turned .loop .i) (omega arith)
+          (as-written (ap (λ (n : ℕ). 32 ∷ decimal n) (c .before .id .ensures)) (c .next-number .ensures)) (turned .loop .inv .2),
     )
 
 put-byte-requires : tie.Need-put-byte-requires Inv-loop μ-loop
@@ -82,7 +84,8 @@ put-byte-requires c κs = omega arith
 returns : tie.Need-returns Inv-loop μ-loop
 returns c =
     let turned = c .before .before .before in
-    fields-end idText (turned .before .before .before .before .before .args .columns .now) (turned .loop .i) (omega arith) (omega arith) (c .put-byte .ensures) (turned .loop .inv .2)
+    let s = turned .before .before .before .before .before .args in
+    fields-end idText (s .columns .now) (turned .loop .i) (omega arith) (omega arith) (c .put-byte .ensures) (turned .loop .inv .2)
 
 pub columns-line-spec : {M : Type 1} → statement M
 columns-line-spec =

@@ -38,14 +38,16 @@ put-byte-requires c κs =
 returns : tie.Need-returns
 returns c =
     let named = c .before .before .before .before in
-    let numbered = c .before .before .before .before .before .before .before in
-    let start = c .before .before .before .before .before .before .before .before .before .before .before .before in
-    let table : List (List ℕ) = decimal (start .args .table) ∷ [] in
-    line-ends (omega (arith, decimal-length 9 (start .args .number) (omega arith), decimal-length 9 (start .args .table) (omega arith))) (c .put-byte .ensures)
+    let numbered = named .before .before .before in
+    let s = numbered .before .before .before .before .before .args in
+    let table : List (List ℕ) = decimal (s .table) ∷ [] in
+    let number-short = decimal-length 9 (s .number) (omega arith) in
+    let table-short = decimal-length 9 (s .table) (omega arith) in
+    line-ends (omega (arith, number-short, table-short)) (c .put-byte .ensures)
     (field-turn [] (c .before .before .next-number2 .ensures)
     (field-turn table (named .next-word .ensures)
     (field-turn (ascii "table" ∷ table) (numbered .next-number .ensures)
-    (line-starts (decimal (start .args .number) ∷ ascii "table" ∷ table) (numbered .before .before .put-text .ensures)))))
+    (line-starts (decimal (s .number) ∷ ascii "table" ∷ table) (numbered .before .before .put-text .ensures)))))
 
 pub refused-line-spec : {M : Type 1} → statement M
 refused-line-spec =

@@ -68,7 +68,8 @@ put-byte-requires-2 c κs = omega arith
 returns-2 : tie.Need-returns-2 Inv-loop μ-loop
 returns-2 c =
     let turned = c .before .before .before in
-    fields-end cellText (turned .before .before .before .before .before .before .args .cells .now) (turned .loop .i) (omega arith) (omega arith) (c .put-byte2 .ensures) (turned .loop .inv .2)
+    let s = turned .before .before .before .before .before .before .args in
+    fields-end cellText (s .cells .now) (turned .loop .i) (omega arith) (omega arith) (c .put-byte2 .ensures) (turned .loop .inv .2)
 
 pub row-line-spec : {M : Type 1} → statement M
 row-line-spec =

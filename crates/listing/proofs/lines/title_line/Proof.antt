@@ -61,7 +61,8 @@ put-byte-requires c κs = omega arith
 returns : tie.Need-returns Inv-loop μ-loop
 returns c =
     let turned = c .before .before .before in
-    fields-end decimal (turned .before .before .before .before .before .args .numbers .now) (turned .loop .i) (omega arith) (omega arith) (c .put-byte .ensures) (turned .loop .inv .2)
+    let s = turned .before .before .before .before .before .args in
+    fields-end decimal (s .numbers .now) (turned .loop .i) (omega arith) (omega arith) (c .put-byte .ensures) (turned .loop .inv .2)
 
 pub title-line-spec : {M : Type 1} → statement M
 title-line-spec =

@@ -33,7 +33,9 @@ same-length-2 c = search needs
 
 returns-2 : tie.Need-returns-2
 returns-2 c =
-    as-written (ap decimal (c .before .before .before .low-bits .ensures) ∙ sym (number-text _ (c .before .before .before .before .before .if1 .left))) (c .before .before .put-number .ensures)
+    let k = c .before .before .before in
+    let e = ap decimal (k .low-bits .ensures) ∙ sym (number-text _ (k .before .before .if1 .left)) in
+    as-written e (c .before .before .put-number .ensures)
 
 pub put-cell-spec : {M : Type 1} → statement M
 put-cell-spec =

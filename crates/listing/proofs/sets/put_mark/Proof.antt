@@ -23,7 +23,8 @@ same-length c = search needs
 returns-2 : tie.Need-returns-2
 returns-2 c =
     let chosen = c .before .before .before .before .before .before .before .before in (
-      as-written (sym (mark-text _ _ (chosen .if1 .left))) (then-written (c .before .before .before .before .before .before .put-number .ensures) (c .before .before .put-byte .ensures)),
+      as-written (sym (mark-text _ _ (chosen .if1 .left)))
+          (then-written (c .before .before .before .before .before .before .put-number .ensures) (c .before .before .put-byte .ensures)),
       omega (arith, decimal-length 2 (chosen .before .before .args .position) (omega arith)),
     )
 

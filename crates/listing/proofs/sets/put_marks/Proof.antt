@@ -46,7 +46,8 @@ loop-again c =
       omega arith,
       omega arith,
       omega arith,
-      marks-turn (turned .loop .k) _ _ _ (and-mask (turned .before .before .args .word / 2 ^ turned .loop .k) 1) (turned .loop .inv .3) (c .before .before .put-mark .ensures .0),
+      marks-turn (turned .loop .k) _ _ _ (and-mask (turned .before .before .args .word / 2 ^ turned .loop .k) 1)
+          (turned .loop .inv .3) (c .before .before .put-mark .ensures .0),
     )
 
 same-length : tie.Need-same-length Inv-loop μ-loop

@@ -1,6 +1,7 @@
 -- `mark_rows` meets its contract. The loop's invariant: the cells of the first j rows are marked. Assumes nothing.
 use borrow.Author.Needs.{needs}
-use Prim.Native.Nat.{_+_, _-_, _*_, _≤_}
+use mathlib.Core.List.{List}
+use Prim.Native.Nat.{ℕ, _+_, _-_, _*_, _≤_}
 use mathlib.Core.Path.{_≡_, sym}
 use native.Mathlib.Nat.{zero-mul}
 use native.Mathlib.Omega.{arith}
@@ -16,18 +17,30 @@ Inv-loop cells n width marks₀ j₀ at₀ marks j at = (j ≤ n) × (at ≡ j *
 abbrev μ-loop : tie.MeasureT-loop
 μ-loop cells n width marks₀ j₀ at₀ marks j at = n - j
 
--- the next row is within the cells, and as long as the table is wide
-row-within : (c : tie.In-loop Inv-loop μ-loop) → c .before .loop .at + c .before .before .before .before .args .width ≤ length (c .before .before .before .before .args .cells .now)
-row-within c =
-    let a = c .before .before .before .before .args in
-    let l = c .before .loop in
-    row-ends (a .width) (a .n) (l .j) (l .at) (a .cells .now) (search needs) (search needs) (search needs)
+-- in the loop
+module _ (c : tie.In-loop Inv-loop μ-loop) where
+  abbrev turn : tie.At-loop Inv-loop μ-loop
+  turn = c .before
 
-row-length : (c : tie.In-loop Inv-loop μ-loop) → length (take (c .before .loop .at + c .before .before .before .before .args .width - c .before .loop .at) (drop (c .before .loop .at) (c .before .before .before .before .args .cells .now))) ≡ c .before .before .before .before .args .width
-row-length c = let w = row-within c in simp (length-take, length-drop) (omega arith)
+  abbrev start : tie.Start Inv-loop μ-loop
+  start = turn .before .before .before
+
+  abbrev row : List ℕ
+  row = take (turn .loop .at + start .args .width - turn .loop .at) (drop (turn .loop .at) (start .args .cells .now))
+
+  -- the next row is within the cells, and as long as the table is wide
+  row-within : turn .loop .at + start .args .width ≤ length (start .args .cells .now)
+  row-within =
+      let s = start .args in
+      row-ends (s .width) (s .n) (turn .loop .j) (turn .loop .at) (s .cells .now) (search needs) (search needs) (search needs)
+
+  row-length : length row ≡ start .args .width
+  row-length = let w = row-within in simp (length-take, length-drop) (omega arith)
 
 loop-holds : tie.Need-loop-holds Inv-loop μ-loop
-loop-holds c = let a = c .before .before .args in (search needs, sym (zero-mul (a .width)), rows-none (a .width) (a .cells .now) (a .marks .now))
+loop-holds c =
+    let s = c .before .before .args in
+    (search needs, sym (zero-mul (s .width)), rows-none (s .width) (s .cells .now) (s .marks .now))
 
 add-next : tie.Need-add-next Inv-loop μ-loop
 add-next c = let w = row-within c in search needs
@@ -46,9 +59,8 @@ part-mark-row-end c = let w = row-within c in search needs
 
 mark-row-requires : tie.Need-mark-row-requires Inv-loop μ-loop
 mark-row-requires c κs =
-    let a = c .before .before .before .before .before .before .args in
-    let l = c .before .before .before .loop in
-    (omega (arith, row-length (c .before .before)), search needs, omega (arith, l .inv .2 .size))
+    let i = c .before .before in
+    (omega (arith, row-length i), search needs, omega (arith, turn i .loop .inv .2 .size))
 
 add-j : tie.Need-add-j Inv-loop μ-loop
 add-j c = search needs
@@ -58,12 +70,13 @@ loop-less c = search needs
 
 loop-again : tie.Need-loop-again Inv-loop μ-loop
 loop-again c =
-    let a = c .before .before .before .before .before .before .before .before .before .args in
-    let l = c .before .before .before .before .before .before .loop in
-    let m = c .before .before .mark-row in (
+    let m = c .before .before .mark-row in
+    let i = c .before .before .before .before .before in
+    let l = turn i .loop in
+    let s = start i .args in (
       search needs,
-      next-row (a .width) (a .n) (l .j) (l .at) (a .cells .now) (search needs) (l .inv .1),
-      rows-turn (a .width) (a .cells .now) (a .marks .now) (l .j) (l .at) (l .marks) _ (l .inv .2) (l .inv .1) (row-length (c .before .before .before .before .before)) (m .kept .1 .1 .0) (m .ensures),
+      next-row (s .width) (s .n) (l .j) (l .at) (s .cells .now) (search needs) (l .inv .1),
+      rows-turn (s .width) (s .cells .now) (s .marks .now) (l .j) (l .at) (l .marks) _ (l .inv .2) (l .inv .1) (row-length i) (m .kept .1 .1 .0) (m .ensures),
     )
 
 same-length : tie.Need-same-length Inv-loop μ-loop

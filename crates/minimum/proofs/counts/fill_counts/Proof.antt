@@ -25,12 +25,19 @@ loop-holds c =
     let a = c .before .before .args in
     (search needs, sym (zero-mul (a .width)), paste-none (a .counts .now) 0 (map filled (rowsIn (a .width) (a .n) (a .cells .now))))
 
--- the next row is within the cells
-row-within : (c : tie.In-loop Inv-loop μ-loop) → c .before .loop .at + c .before .before .before .before .args .width ≤ length (c .before .before .before .before .args .cells .now)
-row-within c =
-    let a = c .before .before .before .before .args in
-    let l = c .before .loop in
-    row-ends (a .width) (a .n) (l .i) (l .at) (a .cells .now) (search needs) (search needs) (search needs)
+-- in the loop
+module _ (c : tie.In-loop Inv-loop μ-loop) where
+  abbrev turn : tie.At-loop Inv-loop μ-loop
+  turn = c .before
+
+  abbrev start : tie.Start Inv-loop μ-loop
+  start = turn .before .before .before
+
+  -- the next row is within the cells
+  row-within : turn .loop .at + start .args .width ≤ length (start .args .cells .now)
+  row-within =
+      let s = start .args in
+      row-ends (s .width) (s .n) (turn .loop .i) (turn .loop .at) (s .cells .now) (search needs) (search needs) (search needs)
 
 add-next : tie.Need-add-next Inv-loop μ-loop
 add-next c = let w = row-within c in search needs
@@ -69,7 +76,8 @@ loop-again c =
     let r = c .count-filled in (
       search needs,
       next-row (a .width) (a .n) (l .i) (l .at) (a .cells .now) (search needs) (l .inv .1),
-      counts-turn (a .width) (a .n) (a .cells .now) (a .counts .now) (search needs) (l .i) (l .at) (l .counts) (r .result) (search needs) (l .inv .1) (l .inv .2) (r .ensures),
+      counts-turn (a .width) (a .n) (a .cells .now) (a .counts .now) (search needs)
+          (l .i) (l .at) (l .counts) (r .result) (search needs) (l .inv .1) (l .inv .2) (r .ensures),
     )
 
 same-length : tie.Need-same-length Inv-loop μ-loop

@@ -52,7 +52,8 @@ returns-2 : tie.Need-returns-2 Inv-loop μ-loop
 returns-2 c =
     let a = c .before .before .before .before .before .before .before .before .before .before .before .args in
     let l = c .before .before .before .before .before .loop in
-    covers-stop (a .s .now) (a .t .now) (l .c) (l .inv .1) (c .before .covered .result) (search needs) (search needs) (c .before .covered .ensures) (not-true _ (c .if2 .taken))
+    let k = c .before .covered in
+    covers-stop (a .s .now) (a .t .now) (l .c) (l .inv .1) (k .result) (search needs) (search needs) (k .ensures) (not-true _ (c .if2 .taken))
 
 add-c : tie.Need-add-c Inv-loop μ-loop
 add-c c = search needs
@@ -64,7 +65,8 @@ loop-again : tie.Need-loop-again Inv-loop μ-loop
 loop-again c =
     let a = c .before .before .before .before .before .before .before .before .before .before .before .args in
     let l = c .before .before .before .before .before .loop in
-    (search needs, covers-go (a .s .now) (a .t .now) (l .c) (l .inv .1) (c .before .covered .result) (search needs) (search needs) (c .before .covered .ensures) (not-false _ (c .if2 .left)))
+    let k = c .before .covered in
+    (search needs, covers-go (a .s .now) (a .t .now) (l .c) (l .inv .1) (k .result) (search needs) (search needs) (k .ensures) (not-false _ (c .if2 .left)))
 
 returns-3 : tie.Need-returns-3 Inv-loop μ-loop
 returns-3 c =
@@ -72,7 +74,8 @@ returns-3 c =
     let l = c .before .loop in
     let t = c .before .before .before .count-filled2 .ensures in
     let s = c .before .before .before .before .count-filled .ensures in
-    subsumes-yes (a .s .now) (a .t .now) (omega (arith, s, t, c .before .before .if1 .left)) (covers-end (a .s .now) (a .t .now) (l .c) (l .inv .1) (search needs))
+    subsumes-yes (a .s .now) (a .t .now) (omega (arith, s, t, c .before .before .if1 .left))
+    (covers-end (a .s .now) (a .t .now) (l .c) (l .inv .1) (search needs))
 
 pub subsumes-spec : {M : Type 1} → statement M
 subsumes-spec =

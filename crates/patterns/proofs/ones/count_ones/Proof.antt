@@ -43,7 +43,12 @@ entry k h = record { is = eqb-true (getD table k 0) (ones k) (at right table ref
 
 -- the four entries that are read
 entries : (p : ℕ) → p < 2 ^ 32 → Entry (bitAnd p 255) × Entry (bitAnd (p / 2 ^ 8) 255) × Entry (bitAnd (p / 2 ^ 16) 255) × Entry (p / 2 ^ 24)
-entries p h = (entry (bitAnd p 255) (byte-small p), entry (bitAnd (p / 2 ^ 8) 255) (byte-small (p / 2 ^ 8)), entry (bitAnd (p / 2 ^ 16) 255) (byte-small (p / 2 ^ 16)), entry (p / 2 ^ 24) (omega arith))
+entries p h = (
+  entry (bitAnd p 255) (byte-small p),
+  entry (bitAnd (p / 2 ^ 8) 255) (byte-small (p / 2 ^ 8)),
+  entry (bitAnd (p / 2 ^ 16) 255) (byte-small (p / 2 ^ 16)),
+  entry (p / 2 ^ 24) (omega arith),
+)
 
 cast-low : tie.Need-cast-low
 cast-low c = omega (arith, byte-small (c .args .p))

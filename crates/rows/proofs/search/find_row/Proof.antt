@@ -34,10 +34,11 @@ shared-slice-read-compare-with c = search needs
 
 compare-with-requires : tie.Need-compare-with-requires Inv-loop μ-loop
 compare-with-requires c κs =
-    let a = c .before .before .before .before .before .before .args in
-    let p = c .before .before .before .before .before .before .pre in
     let l = c .before .before .loop in
-    fit-named (length (a .row .now)) (length (a .cells .now)) (a .m) (l .lo + (l .hi - l .lo) / 2) (a .order .now) (p .1 .fit) (p .0) (omega arith)
+    let q = c .before .before .before .before .before .before in
+    let s = q .args in
+    let mid = l .lo + (l .hi - l .lo) / 2 in
+    fit-named (length (s .row .now)) (length (s .cells .now)) (s .m) mid (s .order .now) (q .pre .1 .fit) (q .pre .0) (omega arith)
 
 enum-told : tie.Need-enum-told Inv-loop μ-loop
 enum-told c = search needs
@@ -47,22 +48,26 @@ loop-less c = search needs
 
 loop-again : tie.Need-loop-again Inv-loop μ-loop
 loop-again c =
-    let a = c .before .before .before .before .before .before .before .before .before .args in
-    let p = c .before .before .before .before .before .before .before .before .before .pre in
-    let l = c .before .before .before .before .before .loop in
     let r = c .before .before .compare-with in
-    search-before (length (a .row .now)) (a .m) (a .cells .now) (a .order .now) (a .row .now) (p .0) (p .1) (l .lo) (l .hi) (l .lo + (l .hi - l .lo) / 2) (l .inv) (omega arith) (omega arith) (r .result) (r .ensures) (c .enum-told .given .1)
+    let l = c .before .before .before .before .before .loop in
+    let q = c .before .before .before .before .before .before .before .before .before in
+    let s = q .args in
+    let mid = l .lo + (l .hi - l .lo) / 2 in
+    search-before (length (s .row .now)) (s .m) (s .cells .now) (s .order .now) (s .row .now) (q .pre .0) (q .pre .1)
+    (l .lo) (l .hi) mid (l .inv) (omega arith) (omega arith) (r .result) (r .ensures) (c .enum-told .given .1)
 
 enum-told-2 : tie.Need-enum-told-2 Inv-loop μ-loop
 enum-told-2 c = search needs
 
 returns : tie.Need-returns Inv-loop μ-loop
 returns c =
-    let a = c .before .before .before .before .before .before .before .before .before .args in
-    let p = c .before .before .before .before .before .before .before .before .before .pre in
-    let l = c .before .before .before .before .before .loop in
     let r = c .before .before .compare-with in
-    search-same (length (a .row .now)) (a .m) (a .cells .now) (a .order .now) (a .row .now) (p .0) (p .1) (l .lo) (l .hi) (l .lo + (l .hi - l .lo) / 2) (l .inv) (omega arith) (omega arith) (r .result) (r .ensures) (c .enum-told2 .given .1)
+    let l = c .before .before .before .before .before .loop in
+    let q = c .before .before .before .before .before .before .before .before .before in
+    let s = q .args in
+    let mid = l .lo + (l .hi - l .lo) / 2 in
+    search-same (length (s .row .now)) (s .m) (s .cells .now) (s .order .now) (s .row .now) (q .pre .0) (q .pre .1)
+    (l .lo) (l .hi) mid (l .inv) (omega arith) (omega arith) (r .result) (r .ensures) (c .enum-told2 .given .1)
 
 enum-told-3 : tie.Need-enum-told-3 Inv-loop μ-loop
 enum-told-3 c = search needs
@@ -75,18 +80,20 @@ loop-less-2 c = search needs
 
 loop-again-2 : tie.Need-loop-again-2 Inv-loop μ-loop
 loop-again-2 c =
-    let a = c .before .before .before .before .before .before .before .before .before .args in
-    let p = c .before .before .before .before .before .before .before .before .before .pre in
-    let l = c .before .before .before .before .before .loop in
     let r = c .before .before .compare-with in
-    search-after (length (a .row .now)) (a .m) (a .cells .now) (a .order .now) (a .row .now) (p .0) (p .1) (l .lo) (l .hi) (l .lo + (l .hi - l .lo) / 2) (l .inv) (omega arith) (omega arith) (r .result) (r .ensures) (c .enum-told3 .given .1)
+    let l = c .before .before .before .before .before .loop in
+    let q = c .before .before .before .before .before .before .before .before .before in
+    let s = q .args in
+    let mid = l .lo + (l .hi - l .lo) / 2 in
+    search-after (length (s .row .now)) (s .m) (s .cells .now) (s .order .now) (s .row .now) (q .pre .0) (q .pre .1)
+    (l .lo) (l .hi) mid (l .inv) (omega arith) (omega arith) (r .result) (r .ensures) (c .enum-told3 .given .1)
 
 returns-2 : tie.Need-returns-2 Inv-loop μ-loop
 returns-2 c =
-    let a = c .before .before .before .before .before .args in
-    let p = c .before .before .before .before .before .pre in
     let l = c .before .loop in
-    search-over (length (a .row .now)) (a .m) (a .cells .now) (a .order .now) (a .row .now) (p .0) (p .1) (l .lo) (l .hi) (l .inv) (search needs)
+    let q = c .before .before .before .before .before in
+    let s = q .args in
+    search-over (length (s .row .now)) (s .m) (s .cells .now) (s .order .now) (s .row .now) (q .pre .0) (q .pre .1) (l .lo) (l .hi) (l .inv) (search needs)
 
 pub find-row-spec : {M : Type 1} → statement M
 find-row-spec =

@@ -19,14 +19,17 @@ returns c =
     let a = c .before .before .before .before .before .before .before .args in
     let q = c .before .before .before .before .before .before .before .pre in
     let r = c .before .before .before .find-row in
-    place-taken (length (a .row .now)) (a .m) (a .cells .now) (a .order .now) (a .row .now) (q .0) (q .1) (r .result) (r .ensures) (c .before .p .given .0 .0) (c .before .p .given .1)
+    place-taken (length (a .row .now)) (a .m) (a .cells .now) (a .order .now) (a .row .now) (q .0) (q .1)
+    (r .result) (r .ensures) (c .before .p .given .0 .0) (c .before .p .given .1)
 
 returns-2 : tie.Need-returns-2
 returns-2 c =
     let a = c .before .before .before .before .before .before .args in
     let q = c .before .before .before .before .before .before .pre in
     let r = c .before .before .find-row in
-    absurd (never-free (length (a .row .now)) (a .m) (a .cells .now) (a .order .now) (a .row .now) (q .0) (q .1) (r .result) (r .ensures) _ (q .2) (c .enum-told .given .1))
+    absurd
+    (never-free (length (a .row .now)) (a .m) (a .cells .now) (a .order .now) (a .row .now) (q .0) (q .1)
+    (r .result) (r .ensures) _ (q .2) (c .enum-told .given .1))
 
 pub place-of-spec : {M : Type 1} → statement M
 place-of-spec = tie.close (tie.spec find-row-requires enum-known-p enum-told returns returns-2)

@@ -1,6 +1,6 @@
 -- `write_rows` meets its contract. The loop's invariant: the words of the first k rows are written. Assumes nothing.
-use mathlib.Core.Path.{_≡_, ap}
-use mathlib.Core.List.{flatten}
+use mathlib.Core.Path.{_≡_, sym, ap, subst}
+use mathlib.Core.List.{List, flatten}
 use Prim.Native.Nat.{ℕ, _≤_, _+_, _-_, _*_}
 use native.Mathlib.Nat.{zero-mul, add-mul, one-mul}
 use native.Mathlib.Omega.{arith}
@@ -14,17 +14,22 @@ use Rattle.rows.proofs.Writing.{rows-turn}
 use Rattle.rows.proofs.write.write_rows.Statement.{statement}
 use Rattle.rows.proofs.write.write_rows.Tie as tie
 
+-- the words of the rows at the first m numbers
+abbrev words : ℕ → List ℕ → ℕ → List ℕ → List ℕ
+words width cells m order = flatten (rowsAt width cells (take m order))
+
 abbrev Inv-loop : tie.InvT-loop
-Inv-loop dst₀ at cells width order m k₀ to₀ dst k to = (k ≤ m) × (to ≡ at + k * width) × Pasted dst₀ at (flatten (rowsAt width cells (take m order))) (k * width) dst
+Inv-loop dst₀ at cells width order m k₀ to₀ dst k to =
+    (k ≤ m) × (to ≡ at + k * width) × Pasted dst₀ at (words width cells m order) (k * width) dst
 
 abbrev μ-loop : tie.MeasureT-loop
 μ-loop dst₀ at cells width order m k₀ to₀ dst k to = m - k
 
 loop-holds : tie.Need-loop-holds Inv-loop μ-loop
 loop-holds c =
-    let a = c .before .before .before .args in
-    let z : 0 * a .width ≡ 0 = zero-mul (a .width) in
-    (search needs, omega arith, rw z (paste-none (a .dst .now) (a .at) (flatten (rowsAt (a .width) (a .cells .now) (take (a .m) (a .order .now))))))
+    let s = c .before .before .before .args in
+    let z : 0 * s .width ≡ 0 = zero-mul (s .width) in
+    (search needs, omega arith, rw z (paste-none (s .dst .now) (s .at) (words (s .width) (s .cells .now) (s .m) (s .order .now))))
 
 mul-wide : tie.Need-mul-wide Inv-loop μ-loop
 mul-wide c = search needs
@@ -35,14 +40,24 @@ shared-slice-read-wide c = search needs
 wide-requires : tie.Need-wide-requires Inv-loop μ-loop
 wide-requires c κs = search needs
 
--- the row that the number names is within the cells
-row-in : (c : tie.After-wide Inv-loop μ-loop)
-    → c .wide .result * c .before .before .before .before .before .before .before .args .width + c .before .before .before .before .before .before .before .args .width ≤ length (c .before .before .before .before .before .before .before .args .cells .now)
-row-in c =
-    let l = c .before .before .before .loop in
-    let a = c .before .before .before .before .before .before .before .args in
-    let p = c .before .before .before .before .before .before .before .pre in
-    rw (c .wide .ensures) (fit-named (a .width) (length (a .cells .now)) (a .m) (l .k) (a .order .now) (p .1) (search needs) (search needs))
+-- where the row's number is known
+module _ (c : tie.After-wide Inv-loop μ-loop) where
+  abbrev turn : tie.At-loop Inv-loop μ-loop
+  turn = c .before .before .before
+
+  abbrev start : tie.Start Inv-loop μ-loop
+  start = turn .before .before .before .before
+
+  -- the row that the number names is within the cells
+  row-in : c .wide .result * start .args .width + start .args .width ≤ length (start .args .cells .now)
+  row-in =
+      let s = start .args in
+      subst (λ (i : ℕ). i * s .width + s .width ≤ length (s .cells .now)) (sym (c .wide .ensures))
+      (fit-named (s .width) (length (s .cells .now)) (s .m) (turn .loop .k) (s .order .now) (start .pre .1) (search needs) (search needs))
+
+  -- its words fit, as one of m rows
+  words-fit : turn .loop .k * start .args .width + start .args .width ≤ start .args .m * start .args .width
+  words-fit = row-fits (start .args .width) (start .args .m) (turn .loop .k) (search needs)
 
 mul-from : tie.Need-mul-from Inv-loop μ-loop
 mul-from c = omega (arith, row-in c)
@@ -64,15 +79,11 @@ part-write-words-end c = omega (arith, row-in (c .before))
 
 write-words-requires : tie.Need-write-words-requires Inv-loop μ-loop
 write-words-requires c κs =
-    let l = c .before .before .before .before .before .loop in
-    let a = c .before .before .before .before .before .before .before .before .before .args in
-    (simp (length-take, length-drop) (omega (arith, row-in (c .before .before))), omega (arith, row-fits (a .width) (a .m) (l .k) (search needs)))
+    let w = c .before .before in
+    (simp (length-take, length-drop) (omega (arith, row-in w)), omega (arith, words-fit w))
 
 add-to : tie.Need-add-to Inv-loop μ-loop
-add-to c =
-    let l = c .before .before .before .before .before .before .before .before .loop in
-    let a = c .before .before .before .before .before .before .before .before .before .before .before .before .args in
-    omega (arith, row-fits (a .width) (a .m) (l .k) (search needs))
+add-to c = omega (arith, words-fit (c .before .before .before .before .before))
 
 add-k : tie.Need-add-k Inv-loop μ-loop
 add-k c = search needs
@@ -82,13 +93,15 @@ loop-less c = search needs
 
 loop-again : tie.Need-loop-again Inv-loop μ-loop
 loop-again c =
-    let l = c .before .before .before .before .before .before .before .before .loop in
-    let a = c .before .before .before .before .before .before .before .before .before .before .before .before .args in
-    let p = c .before .before .before .before .before .before .before .before .before .before .before .before .pre in
-    let x = c .before .before .before .before .before .wide in (
+    let k = c .before .before in
+    let w = k .before .before .before in
+    let l = turn w .loop in
+    let q = start w in
+    let s = q .args in (
       search needs,
-      omega (arith, add-mul (l .k) 1 (a .width), one-mul (a .width)),
-      rows-turn (a .dst .now) (a .cells .now) (a .order .now) (a .at) (a .width) (a .m) (p .1) (search needs) (search needs) (l .k) (x .result) (l .to) (l .dst) _ (search needs) (x .ensures) (l .inv .1) (l .inv .2) (c .before .before .write-words .ensures),
+      omega (arith, add-mul (l .k) 1 (s .width), one-mul (s .width)),
+      rows-turn (s .dst .now) (s .cells .now) (s .order .now) (s .at) (s .width) (s .m) (q .pre .1) (search needs) (search needs)
+          (l .k) (w .wide .result) (l .to) (l .dst) _ (search needs) (w .wide .ensures) (l .inv .1) (l .inv .2) (k .write-words .ensures),
     )
 
 same-length : tie.Need-same-length Inv-loop μ-loop
@@ -97,9 +110,10 @@ same-length c = search needs
 returns : tie.Need-returns Inv-loop μ-loop
 returns c =
     let l = c .before .loop in
-    let a = c .before .before .before .before .before .args in
-    let e : l .k ≡ a .m = omega arith in
-    paste-all (a .dst .now) (a .at) (flatten (rowsAt (a .width) (a .cells .now) (take (a .m) (a .order .now)))) (l .k * a .width) (a .m * a .width) (l .dst) (l .inv .2) (ap (λ (k : ℕ). k * a .width) e)
+    let s = c .before .before .before .before .before .args in
+    let e : l .k ≡ s .m = omega arith in
+    paste-all (s .dst .now) (s .at) (words (s .width) (s .cells .now) (s .m) (s .order .now)) (l .k * s .width) (s .m * s .width) (l .dst) (l .inv .2)
+    (ap (λ (k : ℕ). k * s .width) e)
 
 pub write-rows-spec : {M : Type 1} → statement M
 write-rows-spec =

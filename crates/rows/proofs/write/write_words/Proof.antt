@@ -42,7 +42,8 @@ loop-again : tie.Need-loop-again Inv-loop μ-loop
 loop-again c =
     let l = c .before .before .loop in
     let a = c .before .before .before .args in
-    (search needs, paste-turn (a .dst .now) (a .at) (a .words .now) (l .i) (a .at + l .i) (l .dst) 0 (getD (a .words .now) (l .i) 0) (l .inv .1) refl (search needs) (search needs) refl)
+    let word = getD (a .words .now) (l .i) 0 in
+    (search needs, paste-turn (a .dst .now) (a .at) (a .words .now) (l .i) (a .at + l .i) (l .dst) 0 word (l .inv .1) refl (search needs) (search needs) refl)
 
 same-length : tie.Need-same-length Inv-loop μ-loop
 same-length c = search needs

@@ -8,8 +8,6 @@ use borrow.Author.Needs.{needs}
 use Rattle.tables.proofs.union.order_cells.Statement.{statement}
 use Rattle.tables.proofs.union.order_cells.Tie as tie
 
--- The numbers of the distinct rows, ascending, and the rows written by them.
-
 slice-aggregate-order-rows : tie.Need-slice-aggregate-order-rows
 slice-aggregate-order-rows c = search needs
 
@@ -24,19 +22,27 @@ slice-aggregate-write-rows c = search needs
 
 write-rows-requires : tie.Need-write-rows-requires
 write-rows-requires c κs =
-    let s = c .before .before .before .before .before .before .before .before .before in
-    let o = c .before .before .before .before .order-rows .ensures in
-    let f = few-words (c .before .before .before .before .order-rows .result) maxUnionRows (s .args .width) (omega (arith, o .0)) (s .pre .0) in
-    (search needs, below-fit (s .args .width) (s .args .n) (length (s .args .wide .now)) (take (c .before .before .before .before .order-rows .result) (c .before .before .before .before .order-rows .last .1 .1 .1 .0)) (s .pre .2) (o .1 .below), omega (arith, f, s .pre .3))
+    let o = c .before .before .before .before .order-rows in
+    let q = c .before .before .before .before .before .before .before .before .before in
+    let s = q .args in
+    let f = few-words (o .result) maxUnionRows (s .width) (omega (arith, o .ensures .0)) (q .pre .0) in (
+      search needs,
+      below-fit (s .width) (s .n) (length (s .wide .now)) (take (o .result) (o .last .1 .1 .1 .0)) (q .pre .2) (o .ensures .1 .below),
+      omega (arith, f, q .pre .3),
+    )
 
 same-length : tie.Need-same-length
 same-length c = search needs
 
 returns : tie.Need-returns
 returns c =
-    let s = c .before .before .before .before .before .before .before .before .before .before .before .before in
-    let o = c .before .before .before .before .before .before .before .order-rows .ensures in
-    (cells-ordered (s .args .width) (s .args .n) _ (s .args .wide .now) _ (s .args .cells .now) _ (s .pre .2) (search needs) (o .1) (c .before .before .write-rows .ensures), o .0)
+    let k = c .before .before in
+    let o = k .before .before .before .before .before in
+    let q = o .before .before .before .before .before in
+    let s = q .args in (
+      cells-ordered (s .width) (s .n) _ (s .wide .now) _ (s .cells .now) _ (q .pre .2) (search needs) (o .order-rows .ensures .1) (k .write-rows .ensures),
+      o .order-rows .ensures .0,
+    )
 
 pub order-cells-spec : {M : Type 1} → statement M
 order-cells-spec =

@@ -55,7 +55,8 @@ loop-again c =
     let n = length-map ids f in
     let x = List·getD-map f ids (l .j) (idOf 0) ∙ ap f (List·getD-map idOf (a .columns .now) (l .j) 0) in (
       search needs,
-      paste-turn (a .places .now) 0 (placesIn (a .union .now) ids) (l .j) _ (l .places) (f (idOf 0)) _ (l .inv .1) (sym (zero-add (l .j))) (omega arith) (omega arith)
+      paste-turn (a .places .now) 0 (placesIn (a .union .now) ids) (l .j) _ (l .places) (f (idOf 0)) _ (l .inv .1)
+          (sym (zero-add (l .j))) (omega arith) (omega arith)
           (c .smaller .ensures ∙ ap f (c .before .id .ensures) ∙ sym x),
     )
 

@@ -1,6 +1,6 @@
 -- The rows passed stand in the cells, widened; a turn writes the next one after them.
 use borrow.Author.Needs.{needs}
-use Prim.Native.Nat.{ℕ, _+_, _-_, _*_, _≤_}
+use Prim.Native.Nat.{ℕ, _+_, _-_, _*_, _<_, _≤_}
 use mathlib.Core.Path.{_≡_, ap}
 use mathlib.Core.List.{flatten}
 use native.Mathlib.Omega.{arith}
@@ -21,7 +21,9 @@ abbrev μ-loop : tie.MeasureT-loop
 μ-loop image union places cells₀ at header columns rows width i₀ from₀ to₀ cells i from to = rows - i
 
 shared-slice-read-header : tie.Need-shared-slice-read-header Inv-loop μ-loop
-shared-slice-read-header c = passed-is maxRows (c .before .before .before .before .before .args .image .now) .0 (c .before .before .before .before .before .pre .0 .0) .first-word
+shared-slice-read-header c =
+    let q = c .before .before .before .before .before in
+    passed-is maxRows (q .args .image .now) .0 (q .pre .0 .0) .first-word
 
 columns-requires : tie.Need-columns-requires Inv-loop μ-loop
 columns-requires c κs = search needs
@@ -39,23 +41,27 @@ add-from : tie.Need-add-from Inv-loop μ-loop
 add-from c = search needs
 
 loop-holds : tie.Need-loop-holds Inv-loop μ-loop
-loop-holds c = let s = c .before .before .before .before .before .before .before in
-    widen-starts (s .args .image .now) (s .args .union .now) (s .args .cells .now) (s .args .at) _ (s .pre .0 .0) (c .before .columns .ensures) (s .pre .1 .0)
+loop-holds c =
+    let q = c .before .before .before .before .before .before .before in
+    let s = q .args in
+    widen-starts (s .image .now) (s .union .now) (s .cells .now) (s .at) _ (q .pre .0 .0) (c .before .columns .ensures) (q .pre .1 .0)
 
--- the next row is within the image, and its place within the cells
-source : (c : tie.In-loop Inv-loop μ-loop) → c .before .loop .from + c .before .before .before .columns .result ≤ length (c .before .before .before .before .before .before .before .before .before .args .image .now)
-source c =
-    let s = c .before .before .before .before .before .before .before .before .before in
-    let l = c .before .loop in
-    source-within (s .args .image .now) (s .args .union .now) (s .args .cells .now) (s .args .at) _ (s .pre .0 .0) (c .before .before .before .columns .ensures) (s .pre .1 .0)
-    (l .i) (l .from) (l .to) (l .cells) (l .inv) (omega (arith, c .before .before .rows .ensures))
+-- in the loop: there is a row more, it is within the image, and its place within the cells
+module _ (c : tie.In-loop Inv-loop μ-loop) where
+  abbrev turn : tie.At-loop Inv-loop μ-loop
+  turn = c .before
 
-target : (c : tie.In-loop Inv-loop μ-loop) → c .before .loop .to + length (c .before .before .before .before .before .before .before .before .before .args .union .now) ≤ length (c .before .before .before .before .before .before .before .before .before .args .cells .now)
-target c =
-    let s = c .before .before .before .before .before .before .before .before .before in
-    let l = c .before .loop in
-    target-within (s .args .image .now) (s .args .union .now) (s .args .cells .now) (s .args .at) _ (s .pre .0 .0) (c .before .before .before .columns .ensures) (s .pre .1 .0)
-    (l .i) (l .from) (l .to) (l .cells) (l .inv) (omega (arith, c .before .before .rows .ensures))
+  abbrev start : tie.Start Inv-loop μ-loop
+  start = turn .before .before .before .before .before .before .before .before
+
+  more : turn .loop .i < rowCount (start .args .image .now)
+  more = omega (arith, turn .before .rows .ensures)
+
+  source : turn .loop .from + turn .before .before .columns .result ≤ length (start .args .image .now)
+  source = source-within (turn .loop .inv) more
+
+  target : turn .loop .to + length (start .args .union .now) ≤ length (start .args .cells .now)
+  target = target-within (turn .loop .inv) more
 
 add-end : tie.Need-add-end Inv-loop μ-loop
 add-end c = let w = source c in search needs
@@ -74,10 +80,9 @@ part-widen-row-end c = let w = source c in search needs
 
 widen-row-requires : tie.Need-widen-row-requires Inv-loop μ-loop
 widen-row-requires c κs =
-    let s = c .before .before .before .before .before .before .before .before .before .before .before in
-    let l = c .before .before .before .loop in
-    cells-within (s .args .image .now) (s .args .union .now) (s .args .cells .now) (s .args .at) _ (s .pre .0 .0) (c .before .before .before .before .before .columns .ensures) (s .pre .1 .0)
-    (l .i) (l .from) (l .to) (l .cells) (l .inv) (omega (arith, c .before .before .before .before .rows .ensures)) (s .args .places .now) (s .pre .0 .1) (s .pre .0 .2)
+    let l = c .before .before in
+    let q = start l in
+    cells-within (turn l .loop .inv) (more l) (q .args .places .now) (q .pre .0 .1) (q .pre .0 .2)
 
 add-to : tie.Need-add-to Inv-loop μ-loop
 add-to c = let w = target (c .before .before .before .before .before) in search needs
@@ -90,23 +95,24 @@ loop-less c = search needs
 
 loop-again : tie.Need-loop-again Inv-loop μ-loop
 loop-again c =
-    let s = c .before .before .before .before .before .before .before .before .before .before .before .before .before .before in
-    let l = c .before .before .before .before .before .before .loop in
-    widen-turn (s .args .image .now) (s .args .union .now) (s .args .cells .now) (s .args .at) _ (s .pre .0 .0) (c .before .before .before .before .before .before .before .before .columns .ensures) (s .pre .1 .0)
-    (l .i) (l .from) (l .to) (l .cells) (l .inv) (omega (arith, c .before .before .before .before .before .before .before .rows .ensures)) (s .args .places .now) (s .pre .0 .1) (s .pre .0 .2) (s .pre .1 .1) _ (c .before .before .widen-row .ensures)
+    let k = c .before .before in
+    let l = k .before .before .before in
+    let q = start l in
+    widen-turn (turn l .loop .inv) (more l) (q .args .places .now) (q .pre .0 .1) (q .pre .0 .2) (q .pre .1 .1) _ (k .widen-row .ensures)
 
 same-length : tie.Need-same-length Inv-loop μ-loop
 same-length c = c .before .loop .inv .written .size
 
 returns : tie.Need-returns Inv-loop μ-loop
 returns c =
-    let s = c .before .before .before .before .before .before .before .before .before in
     let l = c .before .loop in
+    let s = c .before .before .before .before .before .before .before .before .before .args in
+    let width = length (s .union .now) in
     let r = c .before .before .rows .ensures in
     let v = l .inv .rows in
-    let e : l .i ≡ rowCount (s .args .image .now) = omega arith in
-    paste-all (s .args .cells .now) (s .args .at) (flatten (widenedRows (s .args .union .now) (s .args .image .now))) (l .i * length (s .args .union .now)) _
-    (l .cells) (l .inv .written) (ap (λ (k : ℕ). k * length (s .args .union .now)) e)
+    let e : l .i ≡ rowCount (s .image .now) = omega arith in
+    paste-all (s .cells .now) (s .at) (flatten (widenedRows (s .union .now) (s .image .now))) (l .i * width) _ (l .cells) (l .inv .written)
+    (ap (λ (k : ℕ). k * width) e)
 
 pub widen-rows-spec : {M : Type 1} → statement M
 widen-rows-spec =

@@ -67,7 +67,8 @@ widen-rows-requires : tie.Need-widen-rows-requires
 widen-rows-requires c κs =
     let s = c .before .before .before .before .before .before .before .before .before .before .before in
     let u = columns-of (s .args .image .now) _ (s .pre .0 .0) (c .before .before .before .before .before .before .columns .ensures) in
-    ((s .pre .0 .0, s .pre .0 .2, places-written (s .args .union .now) (s .args .image .now) _ (replicate 16 0) _ _ u (c .before .before .before .column-places .ensures)), s .pre .1)
+    let places = places-written (s .args .union .now) (s .args .image .now) _ (replicate 16 0) _ _ u (c .before .before .before .column-places .ensures) in
+    ((s .pre .0 .0, s .pre .0 .2, places), s .pre .1)
 
 same-length : tie.Need-same-length
 same-length c = search needs
