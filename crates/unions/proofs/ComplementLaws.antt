@@ -1,47 +1,49 @@
 -- Complement union: from T to its sets, its fused table and its set list. Assumes nothing.
 use mathlib.Core.Path.{_≡_, refl, sym, _∙_, ap, ap₂, subst}
 use mathlib.Core.List.{List, [], _∷_, _++_, map, flatten}
-use Prim.Native.Nat.{ℕ, suc, _+_, _*_, _≤_, _<_}
-use native.Mathlib.Nat.{mul-le-mul}
+use Prim.Native.Nat.{ℕ, _+_, _*_, _≤_, _<_}
 use native.Mathlib.Omega.{arith}
 use lib.Dec.{leb}
-use lib.ListN.{length, take, drop}
-use Rattle.definitions.specs.Limits.{maxColumns, maxUnionRows, maxSets, setWidth}
+use lib.ListN.{length, take, drop, length-map}
+use lib.Seq.{take-all, length-take-le, getD-take}
+use Rattle.definitions.specs.Limits.{maxSets, setWidth}
 use Rattle.definitions.specs.Image.{imageOf, rowsIn}
 use Rattle.definitions.specs.OuterUnion.{unionIds, unionRows}
 use Rattle.definitions.specs.MinimumUnion.{filled}
 use Rattle.definitions.specs.ComplementUnion.{joined, unionSets, fusedRows}
-use Rattle.definitions.specs.SetList.{bits, fusedPlace, setList}
-use Rattle.definitions.specs.Answer.{Outcome, done, refused, afterwards}
+use Rattle.definitions.specs.SetList.{bits, setList}
+use Rattle.definitions.specs.Answer.{Outcome, done, refused, unless, no}
 use Rattle.definitions.specs.Calls.{fusedImage, complementOutcome}
-use Rattle.definitions.proofs.Unions.{fused-even}
-use Rattle.definitions.proofs.Counts.{image-length, set-list-length}
-use Rattle.lists.proofs.Flat.{rows-length, rows-wide}
-use Rattle.rows.specs.Numbers.{rowsAt, Fit, Below, Ordered}
+use Rattle.definitions.proofs.Counts.{set-list-length}
+use Rattle.lists.proofs.Flat.{rows-length}
+use Rattle.rows.specs.Numbers.{rowsAt, Below, Ordered}
 use Rattle.rows.proofs.Numbers.{below-fit}
 use Rattle.cliques.specs.Graph.{Graph, AllSets}
+use Rattle.fusing.specs.Columns.{ColumnsOf}
 use Rattle.fusing.specs.Graph.{GraphOf}
 use Rattle.fusing.specs.Records.{placesIn, listOf}
-use Rattle.fusing.proofs.Fused.{sets-many, sets-few as counts-few, sets-listed, ordered-fused, places-known, places-below, list-written}
+use Rattle.fusing.proofs.Fused.{sets-many, sets-few, sets-listed, ordered-fused, places-known, places-below, list-written}
 use Rattle.tables.specs.declared.Table.{Table}
 use Rattle.tables.specs.Table.{Holds}
-use Rattle.unions.specs.declared.questions.Checks.{Checks}
-use Rattle.unions.specs.Pair.{Checked}
-use Rattle.unions.specs.Fused.{idsOf, rowsOf, fusedOutcome, SetsOf, FusedOf}
-use Rattle.unions.proofs.Pairs.{pair-accepted, asked-no, asked-yes}
-use Rattle.unions.proofs.Numbered.{result-count, result-words, result-written, result-filled}
+use Rattle.unions.specs.Pair.{Found}
+use Rattle.unions.specs.Fused.{SetsOf, ListedTable, FusedOf, Roomy, fusedOutcome, FusedInto}
+use Rattle.unions.proofs.Pairs.{refuses, passes, pair-accepted, asked-no, asked-yes}
+use Rattle.unions.proofs.Numbered.{Named, Written, named-words, named-written, named-values}
+use Rattle.unions.proofs.Kept.{ids-there, ids-small, cells-there}
+use Rattle.unions.proofs.DemandLaws.{Promised, promised}
 
 -- ---- the sets of T
 
 pub graph-for : (c n : ℕ) (cells neighbours : List ℕ) → GraphOf (rowsIn c n cells) neighbours → Graph neighbours n
 graph-for c n cells neighbours g = subst (Graph neighbours) (rows-length c n cells) (g .graph)
 
-pub sets-of : (c n r : ℕ) (cells neighbours list : List ℕ) → GraphOf (rowsIn c n cells) neighbours → AllSets neighbours n list r → SetsOf (rowsIn c n cells) list r
+pub sets-of : (c n r : ℕ) (cells neighbours list : List ℕ) → GraphOf (rowsIn c n cells) neighbours → AllSets neighbours n list r
+    → SetsOf (rowsIn c n cells) list r
 sets-of c n r cells neighbours list g found =
     let size = rows-length c n cells in
     record {
       many = sets-many (rowsIn c n cells) neighbours list n r size g found;
-      few = counts-few (rowsIn c n cells) neighbours list n r size g found;
+      few = sets-few (rowsIn c n cells) neighbours list n r size g found;
       listed = sets-listed (rowsIn c n cells) neighbours list n r size g found;
     }
 
@@ -56,105 +58,121 @@ fused-of rows c count cells l places rest fits known o e = record {
   placed = places-known rows c count cells l known o places rest e;
 }
 
--- ---- T in a table in work, with its sets and its fused table
+-- ---- the fused table and the set list of a table in work
 
-module _ (t : Table) (h : Holds t (idsOf t) (rowsOf t)) (count m : ℕ) (list joins order places : List ℕ) (s : SetsOf (rowsOf t) list count)
-    (few : count ≤ maxSets) (fewer : m ≤ count) (within : m ≤ length order)
-    (f : FusedOf (rowsOf t) (t .columns) joins (take m order) (take count places)) where
+-- m numbers name the fused rows among the joined ones, and each set has its place
+pub record Fusing (ids cells : List ℕ) (n : ℕ) (columns list joins order places : List ℕ) (m : ℕ) : Type 0 where
+  pub work : ListedTable ids cells n columns list
+  pub fewer : m ≤ length list
+  pub within : m ≤ length order
+  pub found : FusedOf (rowsIn (length ids) n cells) (length ids) joins (take m order) (take (length list) places)
+
+pub whole-list : (l : List ℕ) → take (length l) l ≡ l
+whole-list l = take-all (length l) l (omega arith)
+
+module _ {ids cells : List ℕ} {n : ℕ} {columns list joins order places : List ℕ} {m : ℕ}
+    (k : Fusing ids cells n columns list joins order places m) where
   abbrev T : List (List ℕ)
-  T = rowsOf t
+  T = rowsIn (length ids) n cells
 
-  abbrev image : List ℕ
-  image = imageOf (idsOf t) (fusedRows T)
+  abbrev words : ℕ
+  words = 1 + length ids + m * length ids
 
-  fits : t .rows * t .columns ≤ length (t .cells)
-  fits = let g = mul-le-mul (h .few-rows) (h .few-columns) in omega (arith, h .cell-words)
+  abbrev setWords : ℕ
+  setWords = 1 + setWidth * length list
 
-  whole : length image ≡ 1 + length (idsOf t) + length (fusedRows T) * length (idsOf t)
-  whole =
-      image-length (idsOf t) (fusedRows T) (λ r g. fused-even T (t .columns) (rows-wide (t .columns) (t .rows) (t .cells) fits) r g ∙ h .columns)
+  pub fused-named : Named ids (fusedRows T) ids joins order (length ids) m
+  fused-named = record {
+    columns = whole-list ids;
+    few-columns = k .work .few-columns;
+    short = omega arith;
+    small = k .work .small-ids;
+    few-rows = omega (arith, k .fewer, k .work .few-sets);
+    within = k .within;
+    fit = k .found .fit;
+    rows = k .found .fused;
+  }
 
-  counted : length (unionSets T) ≡ count
-  counted = s .few few
+  counted : length (unionSets T) ≡ length list
+  counted = sym (ap length (k .work .listed) ∙ length-map (unionSets T) bits)
 
-  pub fused-cells : m * t .columns ≤ maxSets * maxColumns
-  fused-cells = let r : m ≤ maxSets = omega arith in mul-le-mul r (h .few-columns)
+  list-words : setWords ≡ length (setList T)
+  list-words = ap (λ (c : ℕ). 1 + setWidth * c) (sym counted) ∙ sym (set-list-length T)
 
-  pub fused-words : 1 + t .columns + m * t .columns ≡ length image
-  fused-words = result-words (idsOf t) (t .ids) joins order (fusedRows T) (t .columns) m refl (h .columns) within (f .fused) whole
+  pub below-places : Below maxSets (take (length list) places)
+  below-places = subst (Below maxSets) (sym (k .found .placed)) (places-below T (omega (arith, counted, k .work .few-sets)))
 
-  pub list-words : 1 + setWidth * count ≡ length (setList T)
-  list-words = ap (λ (k : ℕ). 1 + setWidth * k) (sym counted) ∙ sym (set-list-length T)
+  -- what the questions 10 and 11 tell of two buffers
+  module _ (table sets : List ℕ) (number : ℕ) (asked : Roomy words (length table) setWords (length sets) number) where
+    abbrev image : List ℕ
+    image = imageOf ids (fusedRows T)
 
-  pub below-places : Below maxSets (take count places)
-  below-places = subst (Below maxSets) (sym (f .placed)) (places-below T (let e = counted in omega arith))
+    abbrev values : List ℕ
+    values = length (fusedRows T) ∷ length image ∷ filled (flatten (fusedRows T)) ∷ length (unionSets T) ∷ length (setList T) ∷ []
 
-  pub fused-written : (d y : List ℕ) → y ≡ imageOf (idsOf t) (rowsAt (t .columns) joins (take m order)) ++ drop (1 + t .columns + m * t .columns) d
-      → y ≡ image ++ drop (length image) d
-  fused-written = result-written (idsOf t) (t .ids) joins order (fusedRows T) (t .columns) m refl (h .columns) within (f .fused) whole
+    outcome : unless number 2 (done values) ≡ fusedOutcome ids T (length table) (length sets)
+    outcome =
+        sym (asked .says (done values))
+        ∙ ap₂ (λ (w v : ℕ). unless (no (leb w (length table)) 10) 2 (unless (no (leb v (length sets)) 11) 2 (done values))) (named-words fused-named) list-words
 
-  pub sets-written : (d y : List ℕ) → y ≡ listOf (take count list) (take count places) ++ drop (1 + setWidth * count) d → y ≡ setList T ++ drop (length (setList T)) d
-  sets-written d y e = list-written T (take count list) (take count places) d y count counted (s .listed few) (f .placed) e
+    pub fused-refused : (number ≡ 0 → ⊥) → FusedInto ids T (refused number 2) table table sets sets
+    fused-refused h = record { answers = sym (refuses number 2 (done values) h) ∙ outcome; writes = refl; lists = refl }
 
-  -- ---- the questions 10 and 11, of buffers with so much room
-
-  module _ (room setRoom : ℕ) where
-    pub no-table : room < length image → refused 10 2 ≡ fusedOutcome (idsOf t) T room setRoom
-    no-table = asked-no (length image) room 9 _
-
-    pub no-list : length image ≤ room → setRoom < length (setList T) → refused 11 2 ≡ fusedOutcome (idsOf t) T room setRoom
-    no-list g k = asked-no (length (setList T)) setRoom 10 _ k ∙ asked-yes (length image) room 10 _ g
-
-    pub all-yes : length image ≤ room → length (setList T) ≤ setRoom → (g : ℕ) → g ≡ filled (flatten (rowsAt (t .columns) joins (take m order)))
-        → done (m ∷ (1 + t .columns + m * t .columns) ∷ g ∷ count ∷ (1 + setWidth * count) ∷ []) ≡ fusedOutcome (idsOf t) T room setRoom
-    all-yes r k g e =
-        ap₂ (λ (x : ℕ) (l : List ℕ). done (x ∷ l))
-        (result-count (idsOf t) (t .ids) joins order (fusedRows T) (t .columns) m refl (h .columns) within (f .fused) whole)
-        (ap₂ (λ (w : ℕ) (l : List ℕ). w ∷ l) fused-words
-        (ap₂ (λ (x : ℕ) (l : List ℕ). x ∷ l)
-        (result-filled (idsOf t) (t .ids) joins order (fusedRows T) (t .columns) m refl (h .columns) within (f .fused) whole g e)
-        (ap₂ (λ (x y : ℕ). x ∷ y ∷ []) (sym counted) list-words)))
-        ∙ asked-yes (length (setList T)) setRoom 11 _ k
-        ∙ asked-yes (length image) room 10 _ r
+    pub fused-done : number ≡ 0 → (tableAfter setsAfter : List ℕ) (f : ℕ) → Written ids joins order (length ids) m table tableAfter f
+        → setsAfter ≡ listOf (take (length list) list) (take (length list) places) ++ drop setWords sets
+        → FusedInto ids T (done (m ∷ words ∷ f ∷ length list ∷ setWords ∷ [])) table tableAfter sets setsAfter
+    fused-done e tableAfter setsAfter f w s = record {
+      answers = ap done
+          (named-values fused-named table tableAfter f w (length list ∷ setWords ∷ [])
+          ∙ ap₂ (λ (x y : ℕ). length (fusedRows T) ∷ length image ∷ filled (flatten (fusedRows T)) ∷ x ∷ y ∷ []) (sym counted) list-words)
+          ∙ sym (passes number 2 (done values) e) ∙ outcome;
+      writes = named-written fused-named table tableAfter f w;
+      lists = list-written T (take (length list) list) (take (length list) places) sets setsAfter (length list) counted
+          (whole-list list ∙ k .work .listed) (k .found .placed) s;
+    }
 
 -- ---- the call
 
-module _ (a b : List ℕ) (r : Checks) (c : Checked a b r) (ok : r .number ≡ 0) (t : Table) (h : Holds t (unionIds a b) (unionRows a b)) where
-  -- the table holds what it holds
-  pub own : Holds t (idsOf t) (rowsOf t)
-  own = record {
-    columns = h .columns ∙ ap length (sym (h .ids));
-    ids = refl;
-    rows-are = refl;
-    few-columns = h .few-columns;
-    few-rows = h .few-rows;
-    id-words = h .id-words;
-    cell-words = h .cell-words;
+-- T in a table in work, and its sets
+module _ {a b all : List ℕ} {columns : ℕ} (f : Found a b all columns) {t : Table} (h : Holds t (unionIds a b) (unionRows a b))
+    {list : List ℕ} {count : ℕ} (s : SetsOf (rowsIn (t .columns) (t .rows) (t .cells)) list count) where
+  abbrev ids : List ℕ
+  ids = take (t .columns) (t .ids)
+
+  width : length ids ≡ t .columns
+  width = length-take-le (t .columns) (t .ids) (ids-there h)
+
+  -- what `fuse_sets` asks for
+  pub work-listed : count ≤ maxSets → count ≤ length list → (marks : List ℕ) → ColumnsOf (rowsIn (t .columns) (t .rows) (t .cells)) (t .columns) marks
+      → ListedTable ids (t .cells) (t .rows) marks (take count list)
+  work-listed few room marks g = record {
+    few-columns = omega (arith, width, h .few-columns);
+    small-ids = λ j l. let n = width in let e = getD-take (t .columns) (t .ids) j 0 (omega arith) in omega (arith, ids-small f h j (omega arith));
+    within = subst (λ (w : ℕ). t .rows * w ≤ length (t .cells)) (sym width) (cells-there h);
+    marks = subst (λ (w : ℕ). ColumnsOf (rowsIn w (t .rows) (t .cells)) w marks) (sym width) g;
+    few-sets = omega (arith, length-take-le count list room);
+    listed = s .listed few ∙ ap (λ (w : ℕ). map bits (unionSets (rowsIn w (t .rows) (t .cells)))) (sym width);
   }
 
-  -- more sets than are listed
-  pub no-sets : (room setRoom : ℕ) → maxSets < length (unionSets (rowsOf t)) → refused 9 2 ≡ complementOutcome a b room setRoom
-  unfolding complementOutcome
-  no-sets room setRoom g =
-      asked-no (length (unionSets (unionRows a b))) maxSets 8 _ (subst (λ (l : List (List ℕ)). maxSets < length (unionSets l)) (h .rows-are) g)
-      ∙ pair-accepted a b r c _ ok
+  module _ (table sets : List ℕ) where
+    -- more sets than are listed
+    pub many-promised : maxSets < count → Promised a b table sets (refused 9 2) table sets
+    unfolding complementOutcome
+    many-promised g =
+        let many = subst (λ (l : List (List ℕ)). maxSets < length (unionSets l)) (h .rows-are) (s .many g) in
+        promised a b table sets (refused 9 2) table sets
+        (asked-no (length (unionSets (unionRows a b))) maxSets 8 _ many ∙ pair-accepted f _) refl refl
 
-  -- with as many sets as are listed, the questions 10 and 11 are left
-  module _ (count : ℕ) (list : List ℕ) (s : SetsOf (rowsOf t) list count) (few : count ≤ maxSets) where
-    pub sets-few : length (unionSets (unionRows a b)) ≤ maxSets
-    sets-few = let e = ap (λ (l : List (List ℕ)). length (unionSets l)) (sym (h .rows-are)) ∙ s .few few in omega arith
-
-    pub answers : (room setRoom : ℕ) (says : Outcome) → says ≡ fusedOutcome (idsOf t) (rowsOf t) room setRoom → says ≡ complementOutcome a b room setRoom
+    -- what `fuse_sets` ensures is what is left of the call's promise
+    pub fused-promised : count ≤ maxSets → (says : Outcome) (tableAfter setsAfter : List ℕ)
+        → FusedInto ids (rowsIn (length ids) (t .rows) (t .cells)) says table tableAfter sets setsAfter → Promised a b table sets says tableAfter setsAfter
     unfolding complementOutcome fusedImage
-    answers room setRoom says e =
-        e ∙ ap₂ (λ (u : List ℕ) (l : List (List ℕ)). fusedOutcome u l room setRoom) (h .ids) (h .rows-are)
-        ∙ asked-yes (length (unionSets (unionRows a b))) maxSets 9 _ sets-few
-        ∙ pair-accepted a b r c _ ok
-
-  pub writes : (says : Outcome) (found table : List ℕ) → table ≡ afterwards says (imageOf (idsOf t) (fusedRows (rowsOf t))) found → table ≡ afterwards says (fusedImage a b) found
-  unfolding fusedImage
-  writes says found table e =
-      e ∙ ap₂ (λ (u : List ℕ) (l : List (List ℕ)). afterwards says (imageOf u (fusedRows l)) found) (h .ids) (h .rows-are)
-
-  pub lists : (says : Outcome) (found sets : List ℕ) → sets ≡ afterwards says (setList (rowsOf t)) found → sets ≡ afterwards says (setList (unionRows a b)) found
-  lists says found sets e = e ∙ ap (λ (l : List (List ℕ)). afterwards says (setList l) found) (h .rows-are)
+    fused-promised few says tableAfter setsAfter into =
+        let rows : rowsIn (length ids) (t .rows) (t .cells) ≡ unionRows a b = ap (λ (w : ℕ). rowsIn w (t .rows) (t .cells)) width ∙ h .rows-are in
+        let g : FusedInto (unionIds a b) (unionRows a b) says table tableAfter sets setsAfter =
+        subst (λ (u : List ℕ). FusedInto u (unionRows a b) says table tableAfter sets setsAfter) (h .ids)
+        (subst (λ (l : List (List ℕ)). FusedInto ids l says table tableAfter sets setsAfter) rows into) in
+        let e = ap (λ (l : List (List ℕ)). length (unionSets l)) (sym (h .rows-are)) ∙ s .few few in
+        let fit : length (unionSets (unionRows a b)) ≤ maxSets = omega arith in
+        promised a b table sets says tableAfter setsAfter
+        (g .answers ∙ asked-yes (length (unionSets (unionRows a b))) maxSets 9 _ fit ∙ pair-accepted f _) (g .writes) (g .lists)

@@ -107,9 +107,10 @@ table-read a b rest room setRoom values d =
 
 -- ---- the demand
 
-module _ (a b table sets : List ℕ) (rows : imageRows table ≡ fusedRows (unionRows a b)) (listed : setsIn (length (unionRows a b)) sets ≡ unionSets (unionRows a b))
-    (count : setCount sets ≡ length (unionSets (unionRows a b)))
-    (placed : (k : ℕ) → k < length (unionSets (unionRows a b)) → placeIn (recordAt sets k) ≡ fusedPlace (unionRows a b) (getD (unionSets (unionRows a b)) k [])) where
+module _ (a b table sets : List ℕ) (rows : imageRows table ≡ fusedRows (unionRows a b))
+    (listed : setsIn (length (unionRows a b)) sets ≡ unionSets (unionRows a b)) (count : setCount sets ≡ length (unionSets (unionRows a b)))
+    (placed : (k : ℕ) → k < length (unionSets (unionRows a b))
+    → placeIn (recordAt sets k) ≡ fusedPlace (unionRows a b) (getD (unionSets (unionRows a b)) k [])) where
   abbrev T : List (List ℕ)
   T = unionRows a b
 
@@ -163,10 +164,12 @@ unfolding Fused
 contract-demand says a b found foundSets table sets room setRoom e w l = λ values f.
     let o : complementOutcome a b room setRoom ≡ done values = sym e ∙ f in
     let t : table ≡ fusedImage a b ++ drop (length (fusedImage a b)) found = w ∙ ap (λ (x : Outcome). afterwards x (fusedImage a b) found) o in
-    let s : sets ≡ setList (unionRows a b) ++ drop (length (setList (unionRows a b))) foundSets = l ∙ ap (λ (x : Outcome). afterwards x (setList (unionRows a b)) foundSets) o in
+    let s : sets ≡ setList (unionRows a b) ++ drop (length (setList (unionRows a b))) foundSets =
+    l ∙ ap (λ (x : Outcome). afterwards x (setList (unionRows a b)) foundSets) o in
     subst (λ (x : List ℕ). Demand3 (unionRows a b) x sets) (sym t)
     (subst (λ (x : List ℕ). Demand3 (unionRows a b) (fusedImage a b ++ drop (length (fusedImage a b)) found) x) (sym s)
-    (written-demand a b (drop (length (fusedImage a b)) found) (drop (length (setList (unionRows a b))) foundSets) room setRoom values (complement-done a b room setRoom values .0 o)))
+    (written-demand a b (drop (length (fusedImage a b)) found) (drop (length (setList (unionRows a b))) foundSets) room setRoom values
+    (complement-done a b room setRoom values .0 o)))
 
 -- ---- the contract, return by return
 

@@ -1,45 +1,56 @@
--- Rows of a table in work that are named by their numbers, as a result image. Assumes nothing.
-use mathlib.Core.Path.{_≡_, ap₂}
-use mathlib.Core.List.{List, [], _∷_, _++_, flatten}
-use Prim.Native.Nat.{ℕ, _+_, _*_, _≤_}
+-- The results of outer union and minimum union: rows of a table in work, named by their numbers. Assumes nothing.
+use mathlib.Core.Path.{_≡_, _∙_, ap}
+use mathlib.Core.List.{List}
+use Prim.Native.Nat.{ℕ, _*_, _^_, _≤_, _<_}
 use native.Mathlib.Nat.{mul-le-mul}
 use native.Mathlib.Omega.{arith}
-use lib.ListN.{length, take, drop}
-use Rattle.definitions.specs.Limits.{maxColumns, maxUnionRows}
-use Rattle.definitions.specs.Image.{imageOf}
-use Rattle.definitions.specs.MinimumUnion.{filled}
-use Rattle.definitions.specs.Answer.{done}
-use Rattle.rows.specs.Numbers.{rowsAt, Fit, Below}
+use lib.ListN.{length, getD, take}
+use Rattle.definitions.specs.Ascending.{ascending}
+use Rattle.definitions.specs.OuterUnion.{compareRow, unionIds, unionRows}
+use Rattle.definitions.specs.MinimumUnion.{minimumRows}
+use Rattle.rows.specs.Numbers.{rowsAt, Below, Ordered}
 use Rattle.rows.proofs.Numbers.{below-fit}
 use Rattle.tables.specs.declared.Table.{Table}
-use Rattle.tables.specs.Table.{Holds}
-use Rattle.unions.proofs.Numbered.{result-count, result-words, result-written, result-filled}
+use Rattle.tables.specs.Table.{Holds, bothRows}
+use Rattle.minimum.specs.Trying.{Unsubsumed}
+use Rattle.unions.specs.Pair.{Found}
+use Rattle.unions.proofs.Results.{small-at}
+use Rattle.unions.proofs.Numbered.{Named}
 
--- m numbers of rows, at most as many as the table has
-module _ (u : List ℕ) (rows : List (List ℕ)) (t : Table) (h : Holds t u rows) (m : ℕ) (order : List ℕ) (few : m ≤ t .rows) where
-  pub kept-cells : m * t .columns ≤ maxUnionRows * maxColumns
-  kept-cells = let r : m ≤ maxUnionRows = omega (arith, h .few-rows) in mul-le-mul r (h .few-columns)
+module _ {u : List ℕ} {rows : List (List ℕ)} {t : Table} (h : Holds t u rows) where
+  pub ids-there : t .columns ≤ length (t .ids)
+  ids-there = let e = h .id-words in let f = h .few-columns in omega arith
 
-  pub kept-fit : Below (t .rows) (take m order) → Fit (t .columns) (length (t .cells)) (take m order)
-  kept-fit b =
-      let f = mul-le-mul (h .few-rows) (h .few-columns) in
-      below-fit (t .columns) (t .rows) (length (t .cells)) (take m order) (omega (arith, h .cell-words)) b
+  pub cells-there : t .rows * t .columns ≤ length (t .cells)
+  cells-there = let f = mul-le-mul (h .few-rows) (h .few-columns) in omega (arith, h .cell-words)
 
-  -- they name the rows rs
-  module _ (rs : List (List ℕ)) (within : m ≤ length order) (named : rowsAt (t .columns) (t .cells) (take m order) ≡ rs)
-      (whole : length (imageOf u rs) ≡ 1 + length u + length rs * length u) where
-    pub kept-words : 1 + t .columns + m * t .columns ≡ length (imageOf u rs)
-    kept-words = result-words u (t .ids) (t .cells) order rs (t .columns) m (h .ids) (h .columns) within named whole
+module _ {a b all : List ℕ} {columns : ℕ} (f : Found a b all columns) {rows : List (List ℕ)} {t : Table} (h : Holds t (unionIds a b) rows) where
+  pub ids-small : (k : ℕ) → k < t .columns → getD (t .ids) k 0 < 2 ^ 16
+  ids-small = small-at a b (t .ids) (t .columns) (h .ids) (ids-there h)
 
-    pub kept-written : (d y : List ℕ)
-        → y ≡ imageOf (take (t .columns) (t .ids)) (rowsAt (t .columns) (t .cells) (take m order)) ++ drop (1 + t .columns + m * t .columns) d
-        → y ≡ imageOf u rs ++ drop (length (imageOf u rs)) d
-    kept-written = result-written u (t .ids) (t .cells) order rs (t .columns) m (h .ids) (h .columns) within named whole
+  -- m numbers of rows, at most as many as the table has, name the rows rs
+  named : (m : ℕ) (order : List ℕ) (rs : List (List ℕ)) → m ≤ t .rows → m ≤ length order → Below (t .rows) (take m order)
+      → rowsAt (t .columns) (t .cells) (take m order) ≡ rs → Named (unionIds a b) rs (t .ids) (t .cells) order (t .columns) m
+  named m order rs few within below e = record {
+    columns = h .ids;
+    few-columns = h .few-columns;
+    short = ids-there h;
+    small = ids-small;
+    few-rows = omega (arith, h .few-rows);
+    within = within;
+    fit = below-fit (t .columns) (t .rows) (length (t .cells)) (take m order) (cells-there h) below;
+    rows = e;
+  }
 
-    -- the answer's counts, and further ones
-    pub kept-values : (f : ℕ) (more : List ℕ) → f ≡ filled (flatten (rowsAt (t .columns) (t .cells) (take m order)))
-        → done (m ∷ (1 + t .columns + m * t .columns) ∷ f ∷ more) ≡ done (length rs ∷ length (imageOf u rs) ∷ filled (flatten rs) ∷ more)
-    kept-values f more e =
-        ap₂ (λ (r : ℕ) (l : List ℕ). done (r ∷ l))
-        (result-count u (t .ids) (t .cells) order rs (t .columns) m (h .ids) (h .columns) within named whole)
-        (ap₂ (λ (w x : ℕ). w ∷ x ∷ more) kept-words (result-filled u (t .ids) (t .cells) order rs (t .columns) m (h .ids) (h .columns) within named whole f e))
+module _ {a b all : List ℕ} {columns : ℕ} (f : Found a b all columns) {t : Table} (m : ℕ) (order : List ℕ) (few : m ≤ t .rows)
+    (within : m ≤ length order) where
+  -- the distinct widened rows, ascending, are T
+  pub outer-named : Holds t (unionIds a b) (bothRows a b) → Ordered (t .columns) (t .rows) (t .cells) (take m order)
+      → Named (unionIds a b) (unionRows a b) (t .ids) (t .cells) order (t .columns) m
+  unfolding unionRows
+  outer-named h o = named f h m order (unionRows a b) few within (o .below) (o .rows ∙ ap (ascending compareRow) (h .rows-are))
+
+  -- the rows of T that none subsumes are the minimum union
+  pub minimum-named : Holds t (unionIds a b) (unionRows a b) → Unsubsumed (t .columns) (t .rows) (t .cells) (take m order)
+      → Named (unionIds a b) (minimumRows (unionRows a b)) (t .ids) (t .cells) order (t .columns) m
+  minimum-named h u = named f h m order (minimumRows (unionRows a b)) few within (u .below) (u .rows ∙ ap minimumRows (h .rows-are))

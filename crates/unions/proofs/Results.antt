@@ -1,13 +1,13 @@
 -- The words of a result image: its head, then its rows, and what the buffer held past them. Assumes nothing.
 use mathlib.Core.Path.{_≡_, refl, sym, _∙_, ap, ap₂}
 use mathlib.Core.Logic.{⊎-elim}
-use mathlib.Core.List.{List, [], _∷_, _++_, map, flatten, append-assoc}
-use Prim.Native.Nat.{ℕ, zero, suc, _+_, _*_, _%_, _^_, _≤_, _<_}
-use native.Mathlib.Nat.{mod-lt, zero-add, add-assoc}
+use mathlib.Core.List.{List, [], _∷_, _++_, map, flatten}
+use Prim.Native.Nat.{ℕ, zero, suc, _+_, _%_, _^_, _≤_, _<_}
+use native.Mathlib.Nat.{mod-lt, zero-add}
 use native.Mathlib.Omega.{arith}
 use lib.Dec.{lit<}
 use lib.ListN.{length, getD, take, drop, set, length-map, length-append}
-use lib.Seq.{paste, paste-zero, paste-suc, take-all, take-paste, drop-paste, drop-drop, length-take-le, getD-take, set-split}
+use lib.Seq.{paste, paste-zero, paste-suc, take-all, take-paste, drop-paste, drop-drop, length-take-le, getD-take}
 use Rattle.definitions.specs.Word.{headerWord, columnWord, idOf}
 use Rattle.definitions.specs.Image.{imageOf, imageIds, columnWords}
 use Rattle.definitions.specs.OuterUnion.{unionIds}
@@ -16,17 +16,16 @@ use Rattle.definitions.proofs.Lists.{map-stands, stands-get}
 use Rattle.definitions.proofs.Unions.{ids-are}
 use Rattle.lists.proofs.Pastes.{paste-more}
 
--- a list over the front of another, and the rest as found
-pub paste-whole : {A : Type 0} (d s : List A) → paste d 0 s (length s) ≡ s ++ drop (length s) d
-paste-whole {A} d s = ap₂ (λ (x : List A) (k : ℕ). x ++ drop k d) (take-all (length s) s (omega arith)) (zero-add (length s))
-
 -- two lists one after the other over the front
 pub paste-two : {A : Type 0} (d s t x y : List A) (n m : ℕ) → length s ≡ n → length t ≡ m → n + m ≤ length d → x ≡ paste d 0 s n → y ≡ paste x n t m
     → y ≡ (s ++ t) ++ drop (length (s ++ t)) d
 paste-two {A} d s t x y n m es et fits ex ey =
     let whole : length (s ++ t) ≡ n + m = length-append s t ∙ ap₂ _+_ es et in
-    let front : take n x ≡ s = ap (take n) ex ∙ ap (λ (k : ℕ). take k (paste d 0 s n)) (sym (zero-add n)) ∙ take-paste d 0 s n (omega arith) (omega arith) ∙ take-all n s (omega arith) in
-    let past : drop n x ≡ drop n d = ap (drop n) ex ∙ ap (λ (k : ℕ). drop k (paste d 0 s n)) (sym (zero-add n)) ∙ drop-paste d 0 s n (omega arith) (omega arith) ∙ ap (λ (k : ℕ). drop k d) (zero-add n) in
+    let front : take n x ≡ s =
+    ap (take n) ex ∙ ap (λ (k : ℕ). take k (paste d 0 s n)) (sym (zero-add n)) ∙ take-paste d 0 s n (omega arith) (omega arith) ∙ take-all n s (omega arith) in
+    let past : drop n x ≡ drop n d =
+    ap (drop n) ex ∙ ap (λ (k : ℕ). drop k (paste d 0 s n)) (sym (zero-add n)) ∙ drop-paste d 0 s n (omega arith) (omega arith)
+    ∙ ap (λ (k : ℕ). drop k d) (zero-add n) in
     let back : drop (n + m) x ≡ drop (length (s ++ t)) d = sym (drop-drop m n x) ∙ ap (drop m) past ∙ drop-drop m n d ∙ ap (λ (k : ℕ). drop k d) (sym whole) in
     ey ∙ ap₂ (λ (p q : List A). p ++ take m t ++ q) front back ∙ ap (λ (p : List A). s ++ p ++ drop (length (s ++ t)) d) (take-all m t (omega arith))
 
@@ -39,7 +38,7 @@ image-written d x y ids rows n m ei er fits ex ey =
     let head : List ℕ = headerWord (length rows) n ∷ map columnWord ids in
     let size : length head ≡ 1 + n = let l = length-map ids columnWord in omega arith in
     paste-two d head (flatten rows) x y (1 + n) m size er fits ex ey
-    ∙ ap (λ (k : ℕ). (headerWord (length rows) k ∷ (map columnWord ids ++ flatten rows)) ++ drop (length (headerWord (length rows) k ∷ (map columnWord ids ++ flatten rows))) d) (sym ei)
+    ∙ ap (λ (k : ℕ). let l = headerWord (length rows) k ∷ (map columnWord ids ++ flatten rows) in l ++ drop (length l) d) (sym ei)
 
 -- column ids have 16 bits
 pub small-ids : (a b : List ℕ) (id : ℕ) → Stands id (unionIds a b) → id < 2 ^ 16

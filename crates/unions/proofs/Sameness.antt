@@ -49,7 +49,8 @@ set-count a b room setRoom (complement.Done rows words filled sets listWords) e 
 set-count a b room setRoom (complement.Refused number table) e = refl
 
 -- a buffer begins with the written words, and has past them what was found there
-module _ (says outcome : Outcome) (e : says ≡ outcome) (result found after : List ℕ) (w : after ≡ afterwards outcome result found) (n : ℕ) (size : length (written says result) ≡ n) where
+module _ (says outcome : Outcome) (e : says ≡ outcome) (result found after : List ℕ) (w : after ≡ afterwards outcome result found) (n : ℕ)
+    (size : length (written says result) ≡ n) where
   sized : length (written outcome result) ≡ n
   sized = ap (λ (o : Outcome). length (written o result)) (sym e) ∙ size
 

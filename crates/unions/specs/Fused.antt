@@ -1,25 +1,46 @@
 -- What the parts of complement union have found of T: its maximal sets, and the fused table with the places of the joined rows.
 use mathlib.Core.Path.{_≡_}
 use mathlib.Core.List.{List, [], _∷_, map, flatten}
-use Prim.Native.Nat.{ℕ, _≤_, _<_}
+use Prim.Native.Nat.{ℕ, _*_, _^_, _≤_, _<_}
 use lib.Dec.{leb}
-use lib.ListN.{length, take}
-use Rattle.definitions.specs.Limits.{maxSets}
+use lib.ListN.{length, getD, take}
+use Rattle.definitions.specs.Limits.{maxColumns, maxSets}
 use Rattle.definitions.specs.Image.{imageOf, rowsIn}
 use Rattle.definitions.specs.MinimumUnion.{filled}
 use Rattle.definitions.specs.ComplementUnion.{unionSets, fusedRows}
 use Rattle.definitions.specs.SetList.{bits, fusedPlace, setList}
-use Rattle.definitions.specs.Answer.{Outcome, done, unless, no}
+use Rattle.definitions.specs.Answer.{Outcome, done, unless, no, afterwards}
 use Rattle.definitions.specs.Calls.{tableRoom}
 use Rattle.rows.specs.Numbers.{rowsAt, Fit}
-use Rattle.tables.specs.declared.Table.{Table}
+use Rattle.fusing.specs.Columns.{ColumnsOf}
 
--- the columns and the rows of a table in work
-abbrev pub idsOf : Table → List ℕ
-idsOf t = take (t .columns) (t .ids)
+-- r counts the sets where there are at most 1,024 of them, and the list begins with them
+pub record SetsOf (rows : List (List ℕ)) (list : List ℕ) (r : ℕ) : Type 0 where
+  pub many : maxSets < r → maxSets < length (unionSets rows)
+  pub few : r ≤ maxSets → length (unionSets rows) ≡ r
+  pub listed : r ≤ maxSets → take r list ≡ map bits (unionSets rows)
 
-abbrev pub rowsOf : Table → List (List ℕ)
-rowsOf t = rowsIn (t .columns) (t .rows) (t .cells)
+-- the ids and cells of a table in work with n rows, the filled rows of each column, and the list of its sets
+pub record ListedTable (ids cells : List ℕ) (n : ℕ) (columns list : List ℕ) : Type 0 where
+  pub few-columns : length ids ≤ maxColumns
+  pub small-ids : (k : ℕ) → k < length ids → getD ids k 0 < 2 ^ 16
+  pub within : n * length ids ≤ length cells
+  pub marks : ColumnsOf (rowsIn (length ids) n cells) (length ids) columns
+  pub few-sets : length list ≤ maxSets
+  pub listed : list ≡ map bits (unionSets (rowsIn (length ids) n cells))
+
+-- the numbers name the fused rows among the joined ones, and each set has its place
+pub record FusedOf (rows : List (List ℕ)) (width : ℕ) (joined order places : List ℕ) : Type 0 where
+  pub fit : Fit width (length joined) order
+  pub fused : rowsAt width joined order ≡ fusedRows rows
+  pub placed : places ≡ map (fusedPlace rows) (unionSets rows)
+
+-- ---- the questions 10 and 11
+
+-- the number is that of the first of them answered no, for so many words and so much room, and 0 is room for both
+pub record Roomy (words room setWords setRoom number : ℕ) : Type 0 where
+  pub says : (rest : Outcome) → unless (no (leb words room) 10) 2 (unless (no (leb setWords setRoom) 11) 2 rest) ≡ unless number 2 rest
+  pub fits : number ≡ 0 → (words ≤ room) × (setWords ≤ setRoom)
 
 -- the questions 10 and 11 of complement union and its done answer, for T with these columns and rows
 abbrev pub fusedOutcome : List ℕ → List (List ℕ) → ℕ → ℕ → Outcome
@@ -29,14 +50,8 @@ fusedOutcome ids rows room setRoom =
     (done (length (fusedRows rows) ∷ length (imageOf ids (fusedRows rows)) ∷ filled (flatten (fusedRows rows))
     ∷ length (unionSets rows) ∷ length (setList rows) ∷ [])))
 
--- r counts the sets where there are at most 1,024 of them, and the list begins with them
-pub record SetsOf (rows : List (List ℕ)) (list : List ℕ) (r : ℕ) : Type 0 where
-  pub many : maxSets < r → maxSets < length (unionSets rows)
-  pub few : r ≤ maxSets → length (unionSets rows) ≡ r
-  pub listed : r ≤ maxSets → take r list ≡ map bits (unionSets rows)
-
--- the numbers name the fused rows among the joined ones, and each set has its place
-pub record FusedOf (rows : List (List ℕ)) (width : ℕ) (joined order places : List ℕ) : Type 0 where
-  pub fit : Fit width (length joined) order
-  pub fused : rowsAt width joined order ≡ fusedRows rows
-  pub placed : places ≡ map (fusedPlace rows) (unionSets rows)
+-- a call that says this has left both buffers as its answer tells
+pub record FusedInto (ids : List ℕ) (rows : List (List ℕ)) (says : Outcome) (table tableAfter sets setsAfter : List ℕ) : Type 0 where
+  pub answers : says ≡ fusedOutcome ids rows (length table) (length sets)
+  pub writes : tableAfter ≡ afterwards says (imageOf ids (fusedRows rows)) table
+  pub lists : setsAfter ≡ afterwards says (setList rows) sets

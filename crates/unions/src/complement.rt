@@ -1,18 +1,17 @@
 // Complement union: the fused table as an image, and the set list.
 ghost use mathlib.Core.Path.{_≡_};
 ghost use mathlib.Core.List.{map};
-ghost use Prim.Native.Nat.{ℕ, suc, _*_, _^_, _≤_, _<_};
-ghost use lib.ListN.{length, getD, take};
+ghost use Prim.Native.Nat.{suc, _*_, _≤_};
+ghost use lib.ListN.{length, take};
 ghost use Rattle.definitions.specs.Limits.{maxUnionRows, maxSets};
-ghost use Rattle.definitions.specs.Image.{rowsIn, imageOf};
-ghost use Rattle.definitions.specs.ComplementUnion.{unionSets, fusedRows};
+ghost use Rattle.definitions.specs.Image.{rowsIn};
+ghost use Rattle.definitions.specs.ComplementUnion.{unionSets};
 ghost use Rattle.definitions.specs.SetList.{bits, setList};
 ghost use Rattle.definitions.specs.OuterUnion.{unionRows};
 ghost use Rattle.definitions.specs.Answer.{complementSays, afterwards};
 ghost use Rattle.definitions.specs.Calls.{fusedImage, complementOutcome};
-ghost use Rattle.tables.specs.Table.{Holds};
 ghost use Rattle.fusing.specs.Columns.{ColumnsOf};
-ghost use Rattle.unions.specs.Fused.{idsOf, rowsOf, fusedOutcome, SetsOf, FusedOf};
+ghost use Rattle.unions.specs.Fused.{SetsOf, ListedTable, FusedOf, Roomy, FusedInto};
 ghost use Rattle.unions.specs.Demand3.{Fused};
 use crate::image::write_table;
 use crate::questions::check_pair;
@@ -39,116 +38,125 @@ pub fn fuse_rows(
     width: usize,
     columns: &[u64],
     list: &[u64],
-    count: usize,
     joined: &mut [u32],
     order: &mut [u32],
     places: &mut [u32],
 ) -> usize
-    requires { ⌜ (n * width ≤ length (now cells)) × ColumnsOf (rowsIn width n (now cells)) width (now columns) × (count ≤ maxSets) × (count ≤ length (now list)) × (take count (now list) ≡ map bits (unionSets (rowsIn width n (now cells)))) ⌝ }
-    requires { ⌜ (count * width ≤ length (now joined)) × (count ≤ length (now order)) × (count ≤ length (now places)) ⌝ }
-    ensures { λ r. ⌜ (r ≤ count) × (r ≤ length (now (order .exit))) × FusedOf (rowsIn width n (now (cells .entry))) width (now (joined .exit)) (take r (now (order .exit))) (take count (now (places .exit))) ⌝ }
+    requires { ⌜ (n * width ≤ length (now cells)) × ColumnsOf (rowsIn width n (now cells)) width (now columns) × (length (now list) ≤ maxSets) × (now list ≡ map bits (unionSets (rowsIn width n (now cells)))) ⌝ }
+    requires { ⌜ (length (now list) * width ≤ length (now joined)) × (length (now list) ≤ length (now order)) × (length (now list) ≤ length (now places)) ⌝ }
+    ensures { λ r. ⌜ (r ≤ length (now (list .entry))) × (r ≤ length (now (order .exit))) × FusedOf (rowsIn width n (now (cells .entry))) width (now (joined .exit)) (take r (now (order .exit))) (take (length (now (list .entry))) (now (places .exit))) ⌝ }
 {
+    let count = list.len();
     fusing::join_sets(cells, n, width, columns, list, count, joined);
     let m = rows::order_rows(joined, width, count, order, places);
     fusing::places_of(joined, width, count, order, m, places);
     m
 }
 
+// The questions 10 and 11, for so many words and so much room: the number of the first answered no, or 0.
+pub fn check_room(words: usize, room: usize, set_words: usize, set_room: usize) -> u32
+    ensures { λ r. ⌜ Roomy words room «set_words» «set_room» r ⌝ }
+{
+    if room < words {
+        return 10;
+    }
+    if set_room < set_words {
+        return 11;
+    }
+    0
+}
+
 // The fused table goes to the table buffer, the set list to the set buffer. The lists for joined rows have room for the sets.
 pub fn write_fused(
-    t: Table,
+    ids: &[u32],
+    cells: &[u32],
+    n: usize,
     columns: &[u64],
     list: &[u64],
-    count: usize,
     joined: &mut [u32],
     order: &mut [u32],
     places: &mut [u32],
     table: &mut [u32],
     sets: &mut [u32],
 ) -> ComplementAnswer
-    requires { ⌜ Holds t (idsOf t) (rowsOf t) × ((k : ℕ) → k < t .columns → getD (t .ids) k 0 < 2 ^ 16) ⌝ }
-    requires { ⌜ ColumnsOf (rowsOf t) (t .columns) (now columns) × SetsOf (rowsOf t) (now list) count × (count ≤ maxSets) × (count ≤ length (now list)) ⌝ }
-    requires { ⌜ (count * t .columns ≤ length (now joined)) × (count ≤ length (now order)) × (count ≤ length (now places)) ⌝ }
-    ensures answers { λ r. ⌜ complementSays r ≡ fusedOutcome (idsOf t) (rowsOf t) (length (now (table .entry))) (length (now (sets .entry))) ⌝ }
-    ensures writes { λ r. ⌜ now (table .exit) ≡ afterwards (complementSays r) (imageOf (idsOf t) (fusedRows (rowsOf t))) (now (table .entry)) ⌝ }
-    ensures lists { λ r. ⌜ now (sets .exit) ≡ afterwards (complementSays r) (setList (rowsOf t)) (now (sets .entry)) ⌝ }
+    requires { ⌜ ListedTable (now ids) (now cells) n (now columns) (now list) ⌝ }
+    requires { ⌜ (length (now list) * length (now ids) ≤ length (now joined)) × (length (now list) ≤ length (now order)) × (length (now list) ≤ length (now places)) ⌝ }
+    ensures { λ r. ⌜ FusedInto (now (ids .entry)) (rowsIn (length (now (ids .entry))) n (now (cells .entry))) (complementSays r) (now (table .entry)) (now (table .exit)) (now (sets .entry)) (now (sets .exit)) ⌝ }
 {
-    let width = t.columns;
-    let rows = fuse_rows(
-        &t.cells,
-        t.rows,
-        width,
-        columns,
-        list,
-        count,
-        joined,
-        order,
-        places,
-    );
+    let width = ids.len();
+    let rows = fuse_rows(cells, n, width, columns, list, joined, order, places);
     let words = 1 + width + rows * width;
-    if table.len() < words {
-        return ComplementAnswer::Refused {
-            number: 10,
-            table: 2,
-        };
+    let set_words = 1 + 4 * list.len();
+    let number = check_room(words, table.len(), set_words, sets.len());
+    if number != 0 {
+        return ComplementAnswer::Refused { number, table: 2 };
     }
-    let set_words = 1 + 4 * count;
-    if sets.len() < set_words {
-        return ComplementAnswer::Refused {
-            number: 11,
-            table: 2,
-        };
-    }
-    let filled = write_table(table, &t.ids, width, joined, order, rows);
-    fusing::write_sets(sets, list, places, count);
+    let filled = write_table(table, ids, width, joined, order, rows);
+    fusing::write_sets(sets, list, places, list.len());
     ComplementAnswer::Done {
         rows,
         words,
         filled,
-        sets: count,
+        sets: list.len(),
         set_words,
     }
 }
 
-// Lends lists for joined rows: short ones where the sets are few, because to clear the long ones would take longer than the rest of the call.
-pub fn fuse_sets(
-    t: Table,
+// Lends short lists for joined rows, where the sets are few.
+pub fn fuse_few(
+    ids: &[u32],
+    cells: &[u32],
+    n: usize,
     columns: &[u64],
     list: &[u64],
-    count: usize,
     table: &mut [u32],
     sets: &mut [u32],
 ) -> ComplementAnswer
-    requires { ⌜ Holds t (idsOf t) (rowsOf t) × ((k : ℕ) → k < t .columns → getD (t .ids) k 0 < 2 ^ 16) ⌝ }
-    requires { ⌜ ColumnsOf (rowsOf t) (t .columns) (now columns) × SetsOf (rowsOf t) (now list) count × (count ≤ maxSets) × (count ≤ length (now list)) ⌝ }
-    ensures answers { λ r. ⌜ complementSays r ≡ fusedOutcome (idsOf t) (rowsOf t) (length (now (table .entry))) (length (now (sets .entry))) ⌝ }
-    ensures writes { λ r. ⌜ now (table .exit) ≡ afterwards (complementSays r) (imageOf (idsOf t) (fusedRows (rowsOf t))) (now (table .entry)) ⌝ }
-    ensures lists { λ r. ⌜ now (sets .exit) ≡ afterwards (complementSays r) (setList (rowsOf t)) (now (sets .entry)) ⌝ }
+    requires { ⌜ ListedTable (now ids) (now cells) n (now columns) (now list) × (length (now list) ≤ maxUnionRows) ⌝ }
+    ensures { λ r. ⌜ FusedInto (now (ids .entry)) (rowsIn (length (now (ids .entry))) n (now (cells .entry))) (complementSays r) (now (table .entry)) (now (table .exit)) (now (sets .entry)) (now (sets .exit)) ⌝ }
 {
-    if count <= 64 {
-        let mut joined = [0u32; 1024];
-        let mut order = [0u32; 64];
-        let mut places = [0u32; 64];
-        return write_fused(
-            t,
-            columns,
-            list,
-            count,
-            &mut joined,
-            &mut order,
-            &mut places,
-            table,
-            sets,
-        );
+    let mut joined = [0u32; 1024];
+    let mut order = [0u32; 64];
+    let mut places = [0u32; 64];
+    write_fused(
+        ids,
+        cells,
+        n,
+        columns,
+        list,
+        &mut joined,
+        &mut order,
+        &mut places,
+        table,
+        sets,
+    )
+}
+
+// Lends lists for joined rows: long ones only where the sets are many, because to clear them takes longer than the rest of the call.
+pub fn fuse_sets(
+    ids: &[u32],
+    cells: &[u32],
+    n: usize,
+    columns: &[u64],
+    list: &[u64],
+    table: &mut [u32],
+    sets: &mut [u32],
+) -> ComplementAnswer
+    requires { ⌜ ListedTable (now ids) (now cells) n (now columns) (now list) ⌝ }
+    ensures { λ r. ⌜ FusedInto (now (ids .entry)) (rowsIn (length (now (ids .entry))) n (now (cells .entry))) (complementSays r) (now (table .entry)) (now (table .exit)) (now (sets .entry)) (now (sets .exit)) ⌝ }
+{
+    if list.len() <= 64 {
+        return fuse_few(ids, cells, n, columns, list, table, sets);
     }
     let mut joined = [0u32; 16384];
     let mut order = [0u32; 1024];
     let mut places = [0u32; 1024];
     write_fused(
-        t,
+        ids,
+        cells,
+        n,
         columns,
         list,
-        count,
         &mut joined,
         &mut order,
         &mut places,
@@ -178,17 +186,19 @@ pub fn complement_union(
         };
     }
     let width = checks.found.count;
-    let mut t = Table::new(first_words(&checks.found.ids, width), width);
+    let ids = first_words(&checks.found.ids, width);
+    let mut t = Table::new(ids, width);
     t.rows = union_rows(a, b, &checks.found.ids, width, &mut t.cells);
     let mut columns = [0u64; 16];
-    fusing::fill_columns(&t.cells, t.rows, t.columns, &mut columns);
+    fusing::fill_columns(&t.cells, t.rows, width, &mut columns);
     let mut list = [0u64; 1025];
-    let count = list_sets(&t.cells, t.rows, t.columns, &columns, &mut list);
+    let count = list_sets(&t.cells, t.rows, width, &columns, &mut list);
     if 1024 < count {
         return ComplementAnswer::Refused {
             number: 9,
             table: 2,
         };
     }
-    fuse_sets(t, &columns, &list, count, table, sets)
+    let all = &list[..count];
+    fuse_sets(&ids[..width], &t.cells, t.rows, &columns, all, table, sets)
 }

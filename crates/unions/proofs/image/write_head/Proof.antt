@@ -1,5 +1,5 @@
 -- The header stands at word 0, and the column words follow it.
-use mathlib.Core.Path.{_∙_, refl, ap}
+use mathlib.Core.Path.{_∙_, ap}
 use lib.ListN.{set, length-set}
 use Rattle.unions.proofs.Results.{head-written}
 use borrow.Author.Needs.{needs}
@@ -22,19 +22,19 @@ write-ids-requires : tie.Need-write-ids-requires
 write-ids-requires c κs = search needs
 
 same-length : tie.Need-same-length
-same-length c = c .before .buffer .given ∙ length-set (c .before .before .before .before .before .before .before .args .buffer .now) 0 (c .before .before .before .before .header-word .result)
+same-length c =
+    let w = c .before .before .before .before in
+    c .before .buffer .given ∙ length-set (w .before .before .before .args .buffer .now) 0 (w .header-word .result)
 
 returns : tie.Need-returns
-returns c = let s = c .before .before .before .before .before .before .before in head-written (s .args .buffer .now) _ _ (s .args .ids .now) _ (s .args .n) (s .pre .0 .0) (s .pre .0 .1) (ap (set (s .args .buffer .now) 0) (c .before .before .before .before .header-word .ensures)) (c .before .before .write-ids .ensures)
+returns c =
+    let w = c .before .before .before .before in
+    let q = w .before .before .before in
+    let s = q .args in
+    let e = ap (set (s .buffer .now) 0) (w .header-word .ensures) in
+    head-written (s .buffer .now) _ _ (s .ids .now) _ (s .n) (q .pre .0 .0) (q .pre .0 .1) e (c .before .before .write-ids .ensures)
 
 pub write-head-spec : {M : Type 1} → statement M
 write-head-spec =
     tie.close
-    (tie.spec
-    cast-header-word
-    cast-header-word-2
-    header-word-requires
-    slice-write-buffer
-    write-ids-requires
-    same-length
-    returns)
+    (tie.spec cast-header-word cast-header-word-2 header-word-requires slice-write-buffer write-ids-requires same-length returns)

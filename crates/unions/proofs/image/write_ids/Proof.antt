@@ -1,10 +1,10 @@
 -- The column words of the ids passed stand from word 1 on.
 use borrow.Author.Needs.{needs}
-use Prim.Native.Nat.{_+_, _-_, _≤_}
+use Prim.Native.Nat.{_-_, _≤_}
 use mathlib.Core.Path.{refl, sym, _∙_}
 use mathlib.Core.List.{map}
 use native.Mathlib.Omega.{arith}
-use lib.ListN.{length, length-map, List·getD-map}
+use lib.ListN.{length-map, List·getD-map}
 use Rattle.definitions.specs.Word.{columnWord}
 use Rattle.lists.proofs.Pastes.{Pasted, paste-none, paste-turn, paste-all}
 use Rattle.unions.proofs.image.write_ids.Statement.{statement}
@@ -26,7 +26,9 @@ shared-slice-read-word-of : tie.Need-shared-slice-read-word-of Inv-loop μ-loop
 shared-slice-read-word-of c = search needs
 
 word-of-requires : tie.Need-word-of-requires Inv-loop μ-loop
-word-of-requires c κs = (search needs, omega (arith, c .before .before .before .before .before .pre .1 (c .before .before .loop .i) (c .before .loop-test .taken)))
+word-of-requires c κs =
+    let l = c .before .before in
+    (search needs, omega (arith, l .before .before .before .pre .1 (l .loop .i) (c .before .loop-test .taken)))
 
 add-buffer : tie.Need-add-buffer Inv-loop μ-loop
 add-buffer c = search needs
@@ -47,8 +49,11 @@ loop-again : tie.Need-loop-again Inv-loop μ-loop
 loop-again c =
     let l = c .before .before .before .loop in
     let a = c .before .before .before .before .before .before .args in
-    let e = length-map (a .ids .now) columnWord in
-    (search needs, paste-turn (a .buffer .now) 1 (map columnWord (a .ids .now)) (l .i) _ (l .buffer) (columnWord 0) _ (l .inv .1) refl (search needs) (omega arith) (c .word-of .ensures ∙ sym (List·getD-map columnWord (a .ids .now) (l .i) 0)))
+    let e = length-map (a .ids .now) columnWord in (
+      search needs,
+      paste-turn (a .buffer .now) 1 (map columnWord (a .ids .now)) (l .i) _ (l .buffer) (columnWord 0) _ (l .inv .1) refl (search needs) (omega arith)
+          (c .word-of .ensures ∙ sym (List·getD-map columnWord (a .ids .now) (l .i) 0)),
+    )
 
 same-length : tie.Need-same-length Inv-loop μ-loop
 same-length c = c .before .loop .inv .1 .size
@@ -62,18 +67,5 @@ returns c =
 pub write-ids-spec : {M : Type 1} → statement M
 write-ids-spec =
     tie.close
-    (tie.spec
-    Inv-loop
-    μ-loop
-    loop-holds
-    mul-word-of
-    shared-slice-read-word-of
-    word-of-requires
-    add-buffer
-    mul-buffer
-    slice-write-buffer
-    add-i
-    loop-less
-    loop-again
-    same-length
-    returns)
+    (tie.spec Inv-loop μ-loop loop-holds mul-word-of shared-slice-read-word-of word-of-requires add-buffer mul-buffer slice-write-buffer add-i
+    loop-less loop-again same-length returns)

@@ -1,5 +1,5 @@
 -- The head and then the rows by their numbers are the image, and the rows written are counted.
-use Rattle.unions.proofs.Numbered.{numbered-written, numbered-filled}
+use Rattle.unions.proofs.Numbered.{numbered}
 use borrow.Author.Needs.{needs}
 use Rattle.unions.proofs.image.write_table.Statement.{statement}
 use Rattle.unions.proofs.image.write_table.Tie as tie
@@ -33,23 +33,16 @@ same-length c = search needs
 
 returns : tie.Need-returns
 returns c =
-    let s = c .before .before .before .before .before .before .before .before .before .before .before .before .before .before .before in
-    let p = s .pre .0 in (
-      numbered-written (s .args .ids .now) (s .args .cells .now) (s .args .order .now) (s .args .buffer .now) _ _ (s .args .columns) (s .args .m) (p .0) (p .3) (p .4) (p .5) (c .before .before .before .before .before .before .before .before .before .write-head .ensures) (c .before .before .before .before .before .write-rows .ensures),
-      numbered-filled (s .args .ids .now) (s .args .cells .now) (s .args .order .now) (s .args .buffer .now) _ _ (s .args .columns) (s .args .m) (p .0) (p .3) (p .4) (p .5) (c .before .before .before .before .before .before .before .before .before .write-head .ensures) (c .before .before .before .before .before .write-rows .ensures) _ (c .count-rows .ensures),
-    )
+    let r = c .before .before .before .before .before in
+    let h = r .before .before .before .before in
+    let q = h .before .before .before .before .before .before in
+    let s = q .args in
+    let p = q .pre .0 in
+    numbered (s .ids .now) (s .cells .now) (s .order .now) (s .columns) (s .m) (p .0) (p .3) (p .4) (s .buffer .now) _ _ (p .5) (h .write-head .ensures)
+    (r .write-rows .ensures) _ (c .count-rows .ensures)
 
 pub write-table-spec : {M : Type 1} → statement M
 write-table-spec =
     tie.close
-    (tie.spec
-    add-start
-    write-head-requires
-    write-rows-requires
-    mul-count-rows
-    sub-count-rows
-    part-count-rows-start
-    part-count-rows-end
-    count-rows-requires
-    same-length
-    returns)
+    (tie.spec add-start write-head-requires write-rows-requires mul-count-rows sub-count-rows part-count-rows-start part-count-rows-end
+    count-rows-requires same-length returns)

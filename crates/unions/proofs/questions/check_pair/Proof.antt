@@ -1,6 +1,7 @@
 -- Each return is a case of the questions 1 to 8.
 use mathlib.Core.Path.{_≡_, refl, sym, _∙_}
-use native.Mathlib.Omega.{arith}
+use Rattle.definitions.specs.Limits.{maxRows}
+use Rattle.definitions.specs.Questions.{imageNumber}
 use Rattle.unions.proofs.Pairs.{no-first, no-second, no-columns, yes}
 use borrow.Author.Needs.{needs}
 use Rattle.unions.proofs.questions.check_pair.Statement.{statement}
@@ -10,35 +11,39 @@ check-image-requires : tie.Need-check-image-requires
 check-image-requires c κs = search needs
 
 returns : tie.Need-returns
-returns c = let s = c .before .before .before .before in no-first (s .args .a .now) (s .args .b .now) _ (c .before .check-image .ensures) refl (c .if1 .taken)
+returns c = let s = c .before .before .before .before .args in no-first (s .a .now) (s .b .now) _ (c .before .check-image .ensures) refl (c .if1 .taken)
+
+-- the first image is accepted, and the second
+first : (c : tie.Else1) → imageNumber maxRows (c .before .before .before .before .args .a .now) ≡ 0
+first c = sym (c .before .check-image .ensures) ∙ c .if1 .left
+
+second : (c : tie.Else2) → imageNumber maxRows (c .before .before .before .before .before .before .args .b .now) ≡ 0
+second c = sym (c .before .check-image2 .ensures) ∙ c .if2 .left
 
 check-image-requires-2 : tie.Need-check-image-requires-2
 check-image-requires-2 c κs = search needs
 
 returns-2 : tie.Need-returns-2
-returns-2 c = let s = c .before .before .before .before .before .before in no-second (s .args .a .now) (s .args .b .now) _ (sym (c .before .before .before .check-image .ensures) ∙ c .before .before .if1 .left) (c .before .check-image2 .ensures) refl (c .if2 .taken)
+returns-2 c =
+    let s = c .before .before .before .before .before .before .args in
+    no-second (s .a .now) (s .b .now) _ (first (c .before .before)) (c .before .check-image2 .ensures) refl (c .if2 .taken)
 
 union-ids-requires : tie.Need-union-ids-requires
-union-ids-requires c κs = (sym (c .before .before .before .check-image .ensures) ∙ c .before .before .if1 .left, sym (c .before .check-image2 .ensures) ∙ c .if2 .left)
+union-ids-requires c κs = (first (c .before .before), second c)
 
 returns-3 : tie.Need-returns-3
 returns-3 c =
-    let s = c .before .before .before .before .before .before .before .before in
-    no-columns (s .args .a .now) (s .args .b .now) _ (sym (c .before .before .before .before .before .check-image .ensures) ∙ c .before .before .before .before .if1 .left) (sym (c .before .before .before .check-image2 .ensures) ∙ c .before .before .if2 .left) (c .before .union-ids .ensures .0) (c .before .union-ids .ensures .1) refl refl (c .if3 .taken)
+    let q = c .before .before in
+    let s = q .before .before .before .before .before .before .args in
+    no-columns (s .a .now) (s .b .now) _ (first (q .before .before)) (second q) (c .before .union-ids .ensures) refl refl (c .if3 .taken)
 
 returns-4 : tie.Need-returns-4
 returns-4 c =
-    let s = c .before .before .before .before .before .before .before .before in
-    yes (s .args .a .now) (s .args .b .now) _ (sym (c .before .before .before .before .before .check-image .ensures) ∙ c .before .before .before .before .if1 .left) (sym (c .before .before .before .check-image2 .ensures) ∙ c .before .before .if2 .left) (c .before .union-ids .ensures .0) (c .before .union-ids .ensures .1) refl (search needs)
+    let q = c .before .before in
+    let s = q .before .before .before .before .before .before .args in
+    yes (s .a .now) (s .b .now) _ (first (q .before .before)) (second q) (c .before .union-ids .ensures) refl (search needs)
 
 pub check-pair-spec : {M : Type 1} → statement M
 check-pair-spec =
     tie.close
-    (tie.spec
-    check-image-requires
-    returns
-    check-image-requires-2
-    returns-2
-    union-ids-requires
-    returns-3
-    returns-4)
+    (tie.spec check-image-requires returns check-image-requires-2 returns-2 union-ids-requires returns-3 returns-4)
