@@ -112,7 +112,8 @@ row-trans (x ∷ s) [] u e f = before≢after (sym e)
 row-trans (x ∷ s) (y ∷ t) [] e f = before≢after (sym f)
 row-trans (x ∷ s) (y ∷ t) (z ∷ u) e f = step (row-trans s t u) (compareWord x y) (compareWord y z) refl refl e f
   where
-    step : (compareRow s t ≡ Before → compareRow t u ≡ Before → compareRow s u ≡ Before) → (o p : Order) → compareWord x y ≡ o → compareWord y z ≡ p → thenBy o (compareRow s t) ≡ Before → thenBy p (compareRow t u) ≡ Before
+    step : (compareRow s t ≡ Before → compareRow t u ≡ Before → compareRow s u ≡ Before) → (o p : Order) → compareWord x y ≡ o → compareWord y z ≡ p
+        → thenBy o (compareRow s t) ≡ Before → thenBy p (compareRow t u) ≡ Before
         → thenBy (compareWord x z) (compareRow s u) ≡ Before
     step ih Before Before a b g h = ap (λ (o : Order). thenBy o (compareRow s u)) (words .trans x y z a b)
     step ih Before Same a b g h = ap (λ (o : Order). thenBy o (compareRow s u)) (ap (compareWord x) (sym (words .same y z b)) ∙ a)

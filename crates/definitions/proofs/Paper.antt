@@ -152,5 +152,8 @@ right c =
     (length (c .fused) ∷ length (imageOf (c .ids) (c .fused)) ∷ filled (flatten (c .fused)) ∷ length (c .sets) ∷ (1 + 4 * length (c .sets)) ∷ [])
 
 paper : all right cases ≡ true
-unfolding first second right all any keep place distinct allBelow sumBelow imageOf flatten insert ascending compareRow unionIds widened widenedRows unionRows filled covers subsumes minimumRows sameRow agree share complement marked subsets nearAll isComplementing isMaximal maximalSets members join joinAll joined unionSets fusedRows bits marksFrom setRecord setList imageNumber pairNumber fusedImage complementOutcome
+unfolding first second right all any keep place distinct allBelow sumBelow imageOf flatten insert ascending compareRow unionIds widened
+    widenedRows unionRows filled covers subsumes minimumRows sameRow agree share complement marked subsets nearAll isComplementing isMaximal
+    maximalSets members join joinAll joined unionSets fusedRows bits marksFrom setRecord setList imageNumber pairNumber fusedImage
+    complementOutcome
 paper = refl

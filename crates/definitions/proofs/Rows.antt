@@ -83,7 +83,12 @@ agree-of (x ∷ s) (y ∷ t) f =
     let some = eqb x y || not (isFilled x) in
     and-i
     (⊎-elim (λ q. or-l some (not (isFilled y)) (or-l (eqb x y) (not (isFilled x)) (eq-eqb x y q)))
-    (λ p. ⊎-elim (λ q. or-l some (not (isFilled y)) (or-r (eqb x y) (not (isFilled x)) (ap not (cell-empty x q)))) (λ q. or-r some (not (isFilled y)) (ap not (cell-empty y q))) p) (f 0))
+    (λ p.
+    ⊎-elim
+    (λ q. or-l some (not (isFilled y)) (or-r (eqb x y) (not (isFilled x)) (ap not (cell-empty x q))))
+    (λ q. or-r some (not (isFilled y)) (ap not (cell-empty y q)))
+    p)
+    (f 0))
     (agree-of s t (λ k. f (suc k)))
 
 -- "(1) in each column they are equal or one is empty"

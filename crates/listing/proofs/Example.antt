@@ -60,5 +60,8 @@ output =
     ++ ascii "9 5 41 1\n"
 
 pub worked-example : fuseOutput board plant ≡ output
-unfolding flatten all any keep place distinct allBelow sumBelow imageOf insert ascending compareRow unionIds widened widenedRows unionRows filled covers subsumes minimumRows tries pairsTried sameRow agree share complement marked subsets nearAll isComplementing isMaximal maximalSets members join joinAll joined unionSets fusedRows bits marksFrom setRecord setList imageNumber pairNumber fusedImage complementOutcome wordsOf digits decimal cellText line positionsOf listing written fuseOutput
+unfolding flatten all any keep place distinct allBelow sumBelow imageOf insert ascending compareRow unionIds widened widenedRows unionRows
+    filled covers subsumes minimumRows tries pairsTried sameRow agree share complement marked subsets nearAll isComplementing isMaximal
+    maximalSets members join joinAll joined unionSets fusedRows bits marksFrom setRecord setList imageNumber pairNumber fusedImage
+    complementOutcome wordsOf digits decimal cellText line positionsOf listing written fuseOutput
 worked-example = refl

@@ -38,7 +38,8 @@ kept-none c n w numbers = record { count = omega arith; below = tt; rows = refl;
 
 module _ {c n : ℕ} {w numbers : List ℕ} {m pairs k : ℕ} (inv : KeptTo c n w numbers m pairs k) where
   -- row k has been tried
-  module _ (few : n ≤ maxUnionRows) (more : k < n) {subsumed : Bool} {p : ℕ} (told : subsumed ≡ isSubsumed (rowsIn c n w) k) (e : p ≡ triesAt (rowsIn c n w) k) (fewer : p < n) where
+  module _ (few : n ≤ maxUnionRows) (more : k < n) {subsumed : Bool} {p : ℕ}
+      (told : subsumed ≡ isSubsumed (rowsIn c n w) k) (e : p ≡ triesAt (rowsIn c n w) k) (fewer : p < n) where
     sum-more : pairs + p ≡ sumBelow (k + 1) (triesAt (rowsIn c n w))
     unfolding sumBelow
     sum-more = ap₂ _+_ (inv .tried) e ∙ rw (add-one k)

@@ -58,7 +58,8 @@ pub count-turn : (w : List ℕ) (end i total b : ℕ) → end ≤ length w → i
     → total + filled (drop i (take end w)) ≡ filled (take end w) → total + b + filled (drop (i + 1) (take end w)) ≡ filled (take end w)
 unfolding filled
 count-turn w end i total b h k e inv =
-    let more : filled (drop i (take end w)) ≡ bitOf (getD (take end w) i 0) + filled (drop (i + 1) (take end w)) = ap filled (next 0 (take end w) i (omega (arith, length-take-le end w h))) in
+    let more : filled (drop i (take end w)) ≡ bitOf (getD (take end w) i 0) + filled (drop (i + 1) (take end w)) =
+    ap filled (next 0 (take end w) i (omega (arith, length-take-le end w h))) in
     omega (arith, more, e, ap bitOf (getD-take end w i 0 k))
 
 -- no cell is left, and the words of the rows are counted

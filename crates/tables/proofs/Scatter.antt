@@ -134,7 +134,12 @@ module _ (union ids row cells : List ℕ) (at : ℕ) (rising : Rising compareWor
       let u = getD union k 0 in
       let e = paste-within cells at (widened union ids row) (length union) fits (omega (arith, wide)) k h in
       bool-cases (any (eqb u) ids)
-      (λ b. inr (k, subst (λ (p : ℕ). Stands p (placesIn union ids)) (smaller-place union k rising h) (stands-map (λ id. smallerThan id union) u ids (known-stands u ids b)), refl))
+      (λ b. inr (
+        k,
+        subst (λ (p : ℕ). Stands p (placesIn union ids)) (smaller-place union k rising h)
+            (stands-map (λ id. smallerThan id union) u ids (known-stands u ids b)),
+        refl,
+      ))
       (λ b. inl (empty k h ∙ sym (e ∙ widened-lacking union ids row even k h (λ s. clash (any-of (eqb u) u ids s (eq-eqb u u refl)) b))))
 
   anywhere : (i : ℕ) → (getD cells i 0 ≡ getD goal i 0) ⊎ ((p : ℕ) × Stands p (placesIn union ids) × (i ≡ at + p))

@@ -132,7 +132,8 @@ module _ {image union cells₀ cells : List ℕ} {at k i from to : ℕ} (v : Wid
         ∙ widened-row union image i ∙ ap (widened union ids) (sym row-is) in
         let wide : new ≡ paste cells to next w =
         e ∙ ap (λ (l : List ℕ). scattered cells to l row) ep
-        ∙ scatter-widened union ids row cells to (covers .rising) (passed-is maxRows image .0 (v .accepted) .distinct-ids) (covers .has) row-even (omega arith) (next-empty empty) in
+        ∙ scatter-widened union ids row cells to (covers .rising) (passed-is maxRows image .0 (v .accepted) .distinct-ids) (covers .has)
+        row-even (omega arith) (next-empty empty) in
         let p = pasted-more cells₀ at (flatten (widenedRows union image)) (i * w) cells new next w to
         (omega arith) (omega arith) (v .written) (v .target) (widened-length union ids row) here wide in
         record {
