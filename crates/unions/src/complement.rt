@@ -102,7 +102,7 @@ pub fn write_fused(
     }
 }
 
-// Lends short lists for joined rows, where the sets are few.
+// Lends lists for 64 joined rows.
 pub fn fuse_few(
     ids: &[u32],
     cells: &[u32],
@@ -112,7 +112,7 @@ pub fn fuse_few(
     table: &mut [u32],
     sets: &mut [u32],
 ) -> ComplementAnswer
-    requires { ⌜ ListedTable (now ids) (now cells) n (now columns) (now list) × (length (now list) ≤ maxUnionRows) ⌝ }
+    requires { ⌜ ListedTable (now ids) (now cells) n (now columns) (now list) × (length (now list) ≤ 64) ⌝ }
     ensures { λ r. ⌜ FusedInto (now (ids .entry)) (rowsIn (length (now (ids .entry))) n (now (cells .entry))) (complementSays r) (now (table .entry)) (now (table .exit)) (now (sets .entry)) (now (sets .exit)) ⌝ }
 {
     let mut joined = [0u32; 1024];
@@ -132,8 +132,38 @@ pub fn fuse_few(
     )
 }
 
-// Lends lists for joined rows: long ones only where the sets are many, because to clear them takes longer than the rest of the call.
-pub fn fuse_sets(
+// Lends lists for 256 joined rows.
+pub fn fuse_some(
+    ids: &[u32],
+    cells: &[u32],
+    n: usize,
+    columns: &[u64],
+    list: &[u64],
+    table: &mut [u32],
+    sets: &mut [u32],
+) -> ComplementAnswer
+    requires { ⌜ ListedTable (now ids) (now cells) n (now columns) (now list) × (length (now list) ≤ 256) ⌝ }
+    ensures { λ r. ⌜ FusedInto (now (ids .entry)) (rowsIn (length (now (ids .entry))) n (now (cells .entry))) (complementSays r) (now (table .entry)) (now (table .exit)) (now (sets .entry)) (now (sets .exit)) ⌝ }
+{
+    let mut joined = [0u32; 4096];
+    let mut order = [0u32; 256];
+    let mut places = [0u32; 256];
+    write_fused(
+        ids,
+        cells,
+        n,
+        columns,
+        list,
+        &mut joined,
+        &mut order,
+        &mut places,
+        table,
+        sets,
+    )
+}
+
+// Lends lists for 1,024 joined rows.
+pub fn fuse_many(
     ids: &[u32],
     cells: &[u32],
     n: usize,
@@ -145,9 +175,6 @@ pub fn fuse_sets(
     requires { ⌜ ListedTable (now ids) (now cells) n (now columns) (now list) ⌝ }
     ensures { λ r. ⌜ FusedInto (now (ids .entry)) (rowsIn (length (now (ids .entry))) n (now (cells .entry))) (complementSays r) (now (table .entry)) (now (table .exit)) (now (sets .entry)) (now (sets .exit)) ⌝ }
 {
-    if list.len() <= 64 {
-        return fuse_few(ids, cells, n, columns, list, table, sets);
-    }
     let mut joined = [0u32; 16384];
     let mut order = [0u32; 1024];
     let mut places = [0u32; 1024];
@@ -163,6 +190,29 @@ pub fn fuse_sets(
         table,
         sets,
     )
+}
+
+// Lends lists for the joined rows that are as short as the number of sets allows, because to clear long ones takes longer than the rest of
+// a call with few sets.
+pub fn fuse_sets(
+    ids: &[u32],
+    cells: &[u32],
+    n: usize,
+    columns: &[u64],
+    list: &[u64],
+    table: &mut [u32],
+    sets: &mut [u32],
+) -> ComplementAnswer
+    requires { ⌜ ListedTable (now ids) (now cells) n (now columns) (now list) ⌝ }
+    ensures { λ r. ⌜ FusedInto (now (ids .entry)) (rowsIn (length (now (ids .entry))) n (now (cells .entry))) (complementSays r) (now (table .entry)) (now (table .exit)) (now (sets .entry)) (now (sets .exit)) ⌝ }
+{
+    if list.len() <= 64 {
+        return fuse_few(ids, cells, n, columns, list, table, sets);
+    }
+    if list.len() <= 256 {
+        return fuse_some(ids, cells, n, columns, list, table, sets);
+    }
+    fuse_many(ids, cells, n, columns, list, table, sets)
 }
 
 // A call that isn't refused meets demand 3.

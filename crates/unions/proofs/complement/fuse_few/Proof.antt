@@ -1,4 +1,4 @@
--- The short lists are long enough for few sets.
+-- The lists lent are long enough for at most 64 sets.
 use native.Mathlib.Nat.{mul-le-mul}
 use native.Mathlib.Omega.{arith}
 use borrow.Author.Needs.{needs}

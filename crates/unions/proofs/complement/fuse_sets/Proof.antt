@@ -1,6 +1,4 @@
--- The long lists are long enough for all sets.
-use native.Mathlib.Nat.{mul-le-mul}
-use native.Mathlib.Omega.{arith}
+-- The lists that are lent are long enough for the sets.
 use borrow.Author.Needs.{needs}
 use Rattle.unions.proofs.complement.fuse_sets.Statement.{statement}
 use Rattle.unions.proofs.complement.fuse_sets.Tie as tie
@@ -17,21 +15,8 @@ same-length-2 c = search needs
 returns : tie.Need-returns
 returns c = c .before .before .before .before .fuse-few .ensures
 
-slice-aggregate-write-fused : tie.Need-slice-aggregate-write-fused
-slice-aggregate-write-fused c = search needs
-
-slice-aggregate-write-fused-2 : tie.Need-slice-aggregate-write-fused-2
-slice-aggregate-write-fused-2 c = search needs
-
-slice-aggregate-write-fused-3 : tie.Need-slice-aggregate-write-fused-3
-slice-aggregate-write-fused-3 c = search needs
-
-write-fused-requires : tie.Need-write-fused-requires
-write-fused-requires c κs =
-    let p = c .before .before .before .before .before .before .before .before .before .before .before .before .pre in
-    let few = p .few-sets in
-    let g = mul-le-mul few (p .few-columns) in
-    (p, (omega arith, search needs, search needs))
+fuse-some-requires : tie.Need-fuse-some-requires
+fuse-some-requires c κs = (c .before .before .before .before .before .before .before .before .before .before .pre, search needs)
 
 same-length-3 : tie.Need-same-length-3
 same-length-3 c = search needs
@@ -40,10 +25,22 @@ same-length-4 : tie.Need-same-length-4
 same-length-4 c = search needs
 
 returns-2 : tie.Need-returns-2
-returns-2 c = c .before .before .before .before .before .before .before .write-fused .ensures
+returns-2 c = c .before .before .before .before .fuse-some .ensures
+
+fuse-many-requires : tie.Need-fuse-many-requires
+fuse-many-requires c κs = c .before .before .before .before .before .before .before .before .before .before .pre
+
+same-length-5 : tie.Need-same-length-5
+same-length-5 c = search needs
+
+same-length-6 : tie.Need-same-length-6
+same-length-6 c = search needs
+
+returns-3 : tie.Need-returns-3
+returns-3 c = c .before .before .before .before .fuse-many .ensures
 
 pub fuse-sets-spec : {M : Type 1} → statement M
 fuse-sets-spec =
     tie.close
-    (tie.spec fuse-few-requires same-length same-length-2 returns slice-aggregate-write-fused slice-aggregate-write-fused-2
-    slice-aggregate-write-fused-3 write-fused-requires same-length-3 same-length-4 returns-2)
+    (tie.spec fuse-few-requires same-length same-length-2 returns fuse-some-requires same-length-3 same-length-4 returns-2
+    fuse-many-requires same-length-5 same-length-6 returns-3)

@@ -1,0 +1,37 @@
+-- The lists lent are long enough for at most 256 sets.
+use native.Mathlib.Nat.{mul-le-mul}
+use native.Mathlib.Omega.{arith}
+use borrow.Author.Needs.{needs}
+use Rattle.unions.proofs.complement.fuse_some.Statement.{statement}
+use Rattle.unions.proofs.complement.fuse_some.Tie as tie
+
+slice-aggregate-write-fused : tie.Need-slice-aggregate-write-fused
+slice-aggregate-write-fused c = search needs
+
+slice-aggregate-write-fused-2 : tie.Need-slice-aggregate-write-fused-2
+slice-aggregate-write-fused-2 c = search needs
+
+slice-aggregate-write-fused-3 : tie.Need-slice-aggregate-write-fused-3
+slice-aggregate-write-fused-3 c = search needs
+
+write-fused-requires : tie.Need-write-fused-requires
+write-fused-requires c κs =
+    let p = c .before .before .before .before .before .before .before .before .before .before .before .pre in
+    let few = p .1 in
+    let g = mul-le-mul few (p .0 .few-columns) in
+    (p .0, (omega arith, search needs, search needs))
+
+same-length : tie.Need-same-length
+same-length c = search needs
+
+same-length-2 : tie.Need-same-length-2
+same-length-2 c = search needs
+
+returns : tie.Need-returns
+returns c = c .before .before .before .before .before .before .before .write-fused .ensures
+
+pub fuse-some-spec : {M : Type 1} → statement M
+fuse-some-spec =
+    tie.close
+    (tie.spec slice-aggregate-write-fused slice-aggregate-write-fused-2 slice-aggregate-write-fused-3 write-fused-requires same-length
+    same-length-2 returns)
