@@ -19,7 +19,7 @@ ghost use Rattle.cliques.specs.Graph.{near, Graph, AllSets};
 ghost use Rattle.cliques.specs.Maximal.{Maxima};
 
 // As many steps as the quick search may take.
-const MAX_STEPS: usize = 8192;
+const MAX_STEPS: usize = 30000;
 
 // Lists the maximal sets as they are found: by the quick search, or by prefixes where that takes too many steps.
 fn list_all(neighbours: &[u64], n: usize, list: &mut [u64]) -> usize

@@ -78,7 +78,7 @@ returns-2 c =
     length-take-le (r .sets) list (omega (arith, q .pre .3, k .quick-search .kept .1 .1 .1 .1 .0, k .quick-search .ensures .0)) in (
       k .quick-search .ensures .0,
       start-found (s .neighbours .now) (s .n) (q .pre .0) (w .with-row .result) (q .pre .1)
-          (w .with-row .ensures ∙ ap (λ (x : ℕ). withRow x (s .n - 1)) (w .before .below .ensures)) (s .n - 0) (omega arith) (suc maxSets) 8192 (r .steps) (take (r .sets) list)
+          (w .with-row .ensures ∙ ap (λ (x : ℕ). withRow x (s .n - 1)) (w .before .below .ensures)) (s .n - 0) (omega arith) (suc maxSets) 30000 (r .steps) (take (r .sets) list)
           (omega (arith, size, k .quick-search .ensures .0)) (c .if1 .left) (k .quick-search .ensures .1),
     )
 
