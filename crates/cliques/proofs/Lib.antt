@@ -1,4 +1,4 @@
--- The theory of the search: sets as numbers, their order, maximal sets of a prefix, all of them found, and in bounded work.
+-- The theory of both searches: maximal sets of a prefix and of what is left of the rows, all of them found once, and in bounded work.
 pub mod Sublists
 pub mod Marks
 pub mod Maximal

@@ -11,13 +11,9 @@ use borrow.Author.Tests.{eqb-true, eqb-false, eq-eqb}
 use Rattle.definitions.proofs.Bools.{bool-cases, clash, not-so, and-l, and-r, and-i}
 use Rattle.definitions.proofs.Lists.{below-cases}
 use Rattle.bitsets.specs.Bits.{has, both, isSub, withRow}
-use Rattle.cliques.specs.Maximal.{Max}
+use Rattle.cliques.specs.Maximal.{Clique, Max}
 use Rattle.cliques.specs.Search.{complete, isFull, taken, mayTake}
 use Rattle.bitsets.proofs.Bits.{In, has-with-self, has-with-old, has-with-cases, same-set, both-in, both-l, both-r, sub-same, sub-true, sub-of}
-
--- every two different rows of the set complement each other
-abbrev pub Clique : (ℕ → ℕ → Bool) → ℕ → Type 0
-Clique near set = (j k : ℕ) → In set j → In set k → (j ≡ k → ⊥) → near j k ≡ true
 
 -- complementing among n rows
 pub record Simple (near : ℕ → ℕ → Bool) (n : ℕ) : Type 0 where

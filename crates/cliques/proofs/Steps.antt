@@ -1,6 +1,6 @@
 -- A turn of each loop of the search and each of its returns, as the program makes them. Assumes nothing.
 use mathlib.Core.Path.{_≡_, refl, sym, ap, _∙_}
-use mathlib.Core.Bool.{Bool, true, false, not, _&&_}
+use mathlib.Core.Bool.{Bool, true, false, not, _&&_, and-false}
 use mathlib.Core.List.{List, [], _∷_, _++_}
 use Prim.Native.Nat.{ℕ, zero, suc, _+_, _-_, _≤_, _<_}
 use native.Mathlib.Nat.{not-suc-le-zero}
@@ -66,11 +66,7 @@ module _ (N : ℕ → ℕ) where
   full-never set k (suc i) h s =
       below-cases k i h
       (λ lt. ap (λ (x : Bool). x && not (isSub set (N i))) (full-never set k i lt s))
-      (λ p. ap (λ (y : Bool). isFull N set i && not y) (ap (λ (x : ℕ). isSub set (N x)) (sym p) ∙ s) ∙ and-no (isFull N set i))
-    where
-      and-no : (b : Bool) → (b && false) ≡ false
-      and-no true = refl
-      and-no false = refl
+      (λ p. ap (λ (y : Bool). isFull N set i && not y) (ap (λ (x : ℕ). isSub set (N x)) (sym p) ∙ s) ∙ and-false (isFull N set i))
 
   -- ---- the test for taking row i: `next` is what is taken, `part` what the row leaves of the set
 

@@ -12,10 +12,14 @@ abbrev pub Once : {A : Type 0} → List A → Type 0
 Once [] = Unit {0}
 Once (x ∷ rest) = (Stands x rest → ⊥) × Once rest
 
+-- every two different rows of the set complement each other
+abbrev pub Clique : (ℕ → ℕ → Bool) → ℕ → Type 0
+Clique near set = (j k : ℕ) → has set j ≡ true → has set k ≡ true → (j ≡ k → ⊥) → near j k ≡ true
+
 -- a set of rows below i that complement each other, all of which no row below i complements
 pub record Max (near : ℕ → ℕ → Bool) (i set : ℕ) : Type 0 where
   pub inside : Inside set i
-  pub clique : (j k : ℕ) → has set j ≡ true → has set k ≡ true → (j ≡ k → ⊥) → near j k ≡ true
+  pub clique : Clique near set
   pub full : (j : ℕ) → j < i → ((k : ℕ) → has set k ≡ true → near j k ≡ true) → ⊥
 
 -- maximal sets of n rows, none twice: `cap` of them, or all

@@ -8,7 +8,7 @@ use lib.ListN.{length}
 use Rattle.definitions.specs.Statements.{Stands}
 use Rattle.bitsets.specs.Bits.{has, Inside}
 use Rattle.cliques.specs.Graph.{near, Graph}
-use Rattle.cliques.specs.Maximal.{Once, Max}
+use Rattle.cliques.specs.Maximal.{Once, Clique, Max}
 
 -- all of a is in b
 abbrev pub Sub : ℕ → ℕ → Type 0
@@ -22,7 +22,7 @@ module _ (near : ℕ → ℕ → Bool) (n : ℕ) where
   -- the rows of the set complement each other, and those that complement all of it are ahead or done
   pub record Parted (set ahead done : ℕ) : Type 0 where
     pub inside : Inside set n
-    pub clique : (j k : ℕ) → has set j ≡ true → has set k ≡ true → (j ≡ k → ⊥) → near j k ≡ true
+    pub clique : Clique near set
     pub left : (k : ℕ) → has ahead k ≡ true → Joins set k
     pub past : (k : ℕ) → has done k ≡ true → Joins set k
     pub each : (k : ℕ) → Joins set k → (has ahead k ≡ true) ⊎ (has done k ≡ true)

@@ -19,7 +19,8 @@ use Rattle.bitsets.proofs.Bits.{has-bits}
 use Rattle.patterns.proofs.Digits.{mark-next}
 use Rattle.rows.specs.Numbers.{rowAt}
 use Rattle.fusing.specs.Columns.{filledIn, ColumnsOf, FilledRow, Within}
-use Rattle.fusing.proofs.Lists.{map-at, rows-snoc}
+use Rattle.definitions.proofs.Lists.{map-at}
+use Rattle.fusing.proofs.Lists.{rows-snoc}
 use Rattle.fusing.proofs.Parts.{part-is, part-length}
 
 -- the cell i of the row k

@@ -11,13 +11,12 @@ use Rattle.definitions.specs.Image.{rowsIn}
 use Rattle.definitions.specs.ComplementUnion.{joined, unionSets}
 use Rattle.definitions.specs.SetList.{bits}
 use Rattle.definitions.specs.Statements.{Stands}
-use Rattle.definitions.proofs.Lists.{stands-get, map-stands}
+use Rattle.definitions.proofs.Lists.{map-at, stands-get, map-stands}
 use Rattle.definitions.proofs.Counts.{flatten-length}
 use Rattle.lists.proofs.Flat.{Wide, row-fits, flat-row, pasted-rows}
 use Rattle.lists.proofs.Pastes.{Pasted, paste-none, pasted-more}
 use Rattle.fusing.specs.Columns.{ColumnsOf}
 use Rattle.fusing.specs.Join.{pickFrom}
-use Rattle.fusing.proofs.Lists.{map-at}
 use Rattle.fusing.proofs.Picks.{joined-wide, picks-joined}
 
 -- as many sets as are listed

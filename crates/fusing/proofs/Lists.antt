@@ -1,18 +1,12 @@
--- Laws of lists: an element's image, one row more, what stands after a list. Assumes nothing.
+-- Laws of lists: one row more, what stands after a list. Assumes nothing.
 use mathlib.Core.Path.{_≡_, refl, sym, _∙_, ap, ap₂}
 use mathlib.Core.List.{List, [], _∷_, _++_, map}
 use Prim.Native.Nat.{ℕ, zero, suc, _+_, _*_, _<_, _≤_}
-use native.Mathlib.Nat.{le-of-suc-le-suc, not-suc-le-zero}
 use native.Mathlib.Omega.{arith}
 use lib.ListN.{length, getD, take, drop}
 use lib.Seq.{take-suc, take-all, paste, drop-paste, getD-drop}
 use Rattle.definitions.specs.Image.{rowsIn}
 use Rattle.lists.proofs.Flat.{rows-length, rows-take, rows-at}
-
-pub map-at : {A B : Type 0} (f : A → B) (d : A) (e : B) (l : List A) (k : ℕ) → k < length l → getD (map f l) k e ≡ f (getD l k d)
-map-at f d e [] k h = absurd (not-suc-le-zero h)
-map-at f d e (x ∷ l) zero h = refl
-map-at f d e (x ∷ l) (suc k) h = map-at f d e l k (le-of-suc-le-suc h)
 
 -- the rows with the next one
 pub rows-snoc : (c n : ℕ) (w : List ℕ) → rowsIn c (n + 1) w ≡ rowsIn c n w ++ (take c (drop (n * c) w) ∷ [])

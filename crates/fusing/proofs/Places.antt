@@ -15,7 +15,7 @@ use Rattle.definitions.specs.Lists.{place}
 use Rattle.definitions.specs.ComplementUnion.{sameRow}
 use Rattle.definitions.specs.Statements.{Stands}
 use Rattle.definitions.proofs.Bools.{bool-cases}
-use Rattle.definitions.proofs.Lists.{place-rising}
+use Rattle.definitions.proofs.Lists.{map-at, place-rising}
 use Rattle.definitions.proofs.Orders.{rows}
 use Rattle.definitions.proofs.Rows.{same-is}
 use Rattle.lists.proofs.Flat.{rows-length, rows-at}
@@ -24,7 +24,7 @@ use Rattle.rows.specs.Numbers.{rowAt, rowsAt, Below, Listed, Ordered}
 use Rattle.rows.proofs.Numbers.{below-at}
 use Rattle.rows.proofs.Places.{ordered-listed, ordered-stands}
 use Rattle.fusing.specs.Records.{placesIn, Cleared, Placed}
-use Rattle.fusing.proofs.Lists.{map-at, paste-rest}
+use Rattle.fusing.proofs.Lists.{paste-rest}
 use Rattle.fusing.proofs.Parts.{part-is, part-length}
 
 -- ---- the places that the numbers tell

@@ -1,6 +1,6 @@
 -- A walk over the rows of a set, lowest first: the rows that are passed, and one more. Assumes nothing.
 use mathlib.Core.Path.{_≡_, refl, sym, _∙_, ap, ap₂}
-use mathlib.Core.Bool.{Bool, true, false, not, _&&_, _||_}
+use mathlib.Core.Bool.{Bool, true, false, not, _&&_, _||_, and-true, and-false, or-true, or-false}
 use Prim.Native.Nat.{ℕ}
 use lib.Dec.{eqb}
 use borrow.Author.Tests.{eqb-true, eqb-false}
@@ -11,22 +11,6 @@ use Rattle.bitsets.proofs.Bits.{Lowest, has-none, rest-in, rest-of, rest-out}
 -- a row of the set that is no longer in the rest
 abbrev pub passed : ℕ → ℕ → ℕ → Bool
 passed rows rest k = has rows k && not (has rest k)
-
-and-no : (b : Bool) → (b && false) ≡ false
-and-no true = refl
-and-no false = refl
-
-and-yes : (b : Bool) → (b && true) ≡ b
-and-yes true = refl
-and-yes false = refl
-
-or-yes : (b : Bool) → (b || true) ≡ true
-or-yes true = refl
-or-yes false = refl
-
-or-no : (b : Bool) → (b || false) ≡ b
-or-no true = refl
-or-no false = refl
 
 pub passed-in : (rows rest k : ℕ) → passed rows rest k ≡ true → has rows k ≡ true
 passed-in rows rest k h = and-l (has rows k) (not (has rest k)) h
@@ -39,7 +23,7 @@ passed-none rows k = none (has rows k)
     none false = refl
 
 pub passed-all : (rows rest k : ℕ) → rest ≡ 0 → passed rows rest k ≡ has rows k
-passed-all rows rest k e = ap (λ (b : Bool). has rows k && not b) (ap (λ (x : ℕ). has x k) e ∙ has-none k) ∙ and-yes (has rows k)
+passed-all rows rest k e = ap (λ (b : Bool). has rows k && not b) (ap (λ (x : ℕ). has x k) e ∙ has-none k) ∙ and-true (has rows k)
 
 -- the lowest of the rest is next
 module _ (rows rest j : ℕ) (among : (k : ℕ) → has rest k ≡ true → has rows k ≡ true) (low : Lowest rest j) where
@@ -50,7 +34,7 @@ module _ (rows rest j : ℕ) (among : (k : ℕ) → has rest k ≡ true → has 
   among-more k h = among k (rest-in rest k h)
 
   pub next-not : passed rows rest j ≡ false
-  next-not = ap (λ (b : Bool). has rows j && not b) (low .there) ∙ and-no (has rows j)
+  next-not = ap (λ (b : Bool). has rows j && not b) (low .there) ∙ and-false (has rows j)
 
   pub passed-next : passed rows (withoutLowest rest) j ≡ true
   passed-next = ap₂ (λ (a b : Bool). a && not b) next-in (rest-out rest j low)
@@ -66,10 +50,10 @@ module _ (rows rest j : ℕ) (among : (k : ℕ) → has rest k ≡ true → has 
       (λ e.
       ap (passed rows (withoutLowest rest)) (eqb-true k j e)
       ∙ passed-next
-      ∙ sym (ap (λ (b : Bool). passed rows rest k || b) e ∙ or-yes (passed rows rest k)))
+      ∙ sym (ap (λ (b : Bool). passed rows rest k || b) e ∙ or-true (passed rows rest k)))
       (λ e.
       passed-else k (eqb-false k j e)
-      ∙ sym (ap (λ (b : Bool). passed rows rest k || b) e ∙ or-no (passed rows rest k)))
+      ∙ sym (ap (λ (b : Bool). passed rows rest k || b) e ∙ or-false (passed rows rest k)))
 
   -- a row that is passed is not the next
   pub passed-other : (k : ℕ) → passed rows rest k ≡ true → k ≡ j → ⊥
