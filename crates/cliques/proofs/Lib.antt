@@ -14,3 +14,4 @@ pub mod Listed
 pub mod Complete
 pub mod Subgraph
 pub mod Work
+pub mod Sorting

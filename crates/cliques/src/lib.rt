@@ -1,12 +1,13 @@
 // All maximal complementing sets of a graph of at most 64 rows, in set order, in bounded work. Bit k of neighbours[j] says that the
 // rows j and k complement each other; a set of rows is a word whose bit k says that row k is in it.
+mod merging;
 mod ordering;
 mod parts;
 mod search;
 
 use bitsets::below;
 use bitsets::with_row;
-use ordering::order_sets;
+use merging::order_sets;
 use parts::list_parts;
 use search::MAX_SETS;
 ghost use Prim.Native.Nat.{suc, _≤_};

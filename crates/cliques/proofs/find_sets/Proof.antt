@@ -65,7 +65,7 @@ returns-2 c =
     (k .list-parts .ensures .0) (all w) (k .list-parts .ensures .1) (c .if2 .taken)
 
 order-sets-requires : tie.Need-order-sets-requires
-order-sets-requires c κs = room (c .before .before .before .before)
+order-sets-requires c κs = let k = c .before .before .before .before in (omega (arith, c .before .if2 .left), room k)
 
 same-length-2 : tie.Need-same-length-2
 same-length-2 c = search needs
