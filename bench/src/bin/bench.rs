@@ -10,8 +10,8 @@
 
 #[cfg(feature = "product")]
 use fusion_bench::ffi::Product;
-use fusion_bench::generate::{growth_with_rows, growth_with_sets, workloads, Workload};
 use fusion_bench::reference::Reference;
+use fusion_bench::workloads::{growth_with_rows, growth_with_sets, workloads, Workload};
 use fusion_bench::{Call, Unions, ANSWER_WORDS, MAX_SET_WORDS, MAX_TABLE_WORDS};
 use std::hint::black_box;
 
@@ -150,29 +150,36 @@ fn sets(workload: &Workload) -> String {
     }
 }
 
+/// The line of one call on one workload.
+fn line(lanes: &mut [Lane], workload: &Workload, sets: &str, call: Call) {
+    let medians = measure(lanes, workload, call);
+    let (name, call_name) = (&workload.name, call.name());
+    print!("| {name} | {sets} | {call_name} | {:.0} |", medians[0]);
+    if let [reference, product] = medians[..] {
+        let bar = workload
+            .bar_of(call)
+            .map_or("-".to_string(), |bar| bar.to_string());
+        print!(" {product:.0} | {:.3} | {bar} |", product / reference);
+    }
+    println!();
+}
+
 fn table(title: &str, lanes: &mut [Lane], workloads: &[Workload], calls: &[Call]) {
     println!("\n### {title}\n");
     if lanes.len() == 2 {
-        println!("| workload | sets | call | reference ns | product ns | product / reference |");
-        println!("|---|---|---|---:|---:|---:|");
+        println!(
+            "| workload | sets | call | reference ns | product ns | product / reference | bar |"
+        );
+        println!("|---|---|---|---:|---:|---:|---:|");
     } else {
         println!("| workload | sets | call | reference ns |");
         println!("|---|---|---|---:|");
     }
     for workload in workloads {
+        workload.check();
+        let sets = sets(workload);
         for &call in calls {
-            let medians = measure(lanes, workload, call);
-            print!(
-                "| {} | {} | {} | {:.0} |",
-                workload.name,
-                sets(workload),
-                call.name(),
-                medians[0]
-            );
-            if let [reference, product] = medians[..] {
-                print!(" {product:.0} | {:.2} |", product / reference);
-            }
-            println!();
+            line(lanes, workload, &sets, call);
         }
     }
 }
