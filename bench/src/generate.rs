@@ -464,7 +464,7 @@ pub fn far_over_limit(rng: &mut Rng) -> (Table, Table) {
 }
 
 /// Distinct patterns with `ones` of `width` columns each: an antichain.
-pub(crate) fn antichain(rng: &mut Rng, width: usize, ones: usize, count: usize) -> Vec<Vec<bool>> {
+fn antichain(rng: &mut Rng, width: usize, ones: usize, count: usize) -> Vec<Vec<bool>> {
     let mut patterns: Vec<Vec<bool>> = Vec::new();
     let mut tries = 0;
     while patterns.len() < count && tries < 64 * count {
@@ -476,6 +476,47 @@ pub(crate) fn antichain(rng: &mut Rng, width: usize, ones: usize, count: usize) 
         tries += 1;
     }
     patterns
+}
+
+/// The rows of a grid, `apart` rows that complement nothing, and `beside` rows
+/// that complement all but those: they fill half of the columns that the grid
+/// leaves, the same number in each column, in ways that form an antichain, so
+/// that none subsumes another. There are as many maximal sets as the product
+/// of the sizes, and one for each row apart.
+pub(crate) fn grid_beside(
+    rng: &mut Rng,
+    sizes: &[usize],
+    apart: usize,
+    beside: usize,
+) -> Vec<Vec<u32>> {
+    let mut numbers = distinct_numbers(rng, 64);
+    // Ascending, so that rows apart stand behind those with the grid's key.
+    numbers.sort_unstable();
+    let mut rows = grid(&numbers, MAX_COLUMNS, 0, sizes);
+    for key in 1..=apart {
+        rows.extend(grid(&numbers, MAX_COLUMNS, key, &[]));
+    }
+    let start = 1 + sizes.len();
+    let width = MAX_COLUMNS - start;
+    for pattern in antichain(rng, width, width / 2, beside) {
+        let mut row = vec![0; MAX_COLUMNS];
+        row[0] = cell(numbers[0]);
+        for column in (0..width).filter(|&column| pattern[column]) {
+            row[start + column] = cell(numbers[column]);
+        }
+        rows.push(row);
+    }
+    rows
+}
+
+/// Such rows in any numbers, with the columns in any order.
+fn beside(rng: &mut Rng) -> (Table, Table) {
+    let sizes: Vec<usize> = (0..rng.between(1, 8)).map(|_| rng.between(1, 5)).collect();
+    let apart = rng.below(3);
+    let room = 64 - apart - sizes.iter().sum::<usize>();
+    let count = rng.between(0, room);
+    let rows = grid_beside(rng, &sizes, apart, count);
+    scatter(rng, &rows, MAX_COLUMNS)
 }
 
 /// Hostile lists: for each device a board row (-, 1, pattern) and a plant row
@@ -589,7 +630,7 @@ fn wide(rng: &mut Rng) -> (Table, Table) {
 
 /// A pair that passes questions 1 to 7.
 fn sound(rng: &mut Rng) -> Pair {
-    match rng.below(32) {
+    match rng.below(33) {
         0..=9 => pair("small", small(rng)),
         10..=13 => pair("any size", any_size(rng)),
         14..=20 => pair("parts", parts(rng)),
@@ -605,6 +646,7 @@ fn sound(rng: &mut Rng) -> Pair {
             let rows = rng.between(0, 64);
             pair("all complement", all_complement(rows, rng))
         }
+        30 => pair("groups and rows beside", beside(rng)),
         _ => pair("wide", wide(rng)),
     }
 }

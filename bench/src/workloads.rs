@@ -3,8 +3,8 @@
 
 use crate::count::Graph;
 use crate::generate::{
-    all_complement, antichain, cell, distinct_ids, distinct_numbers, document_sets, far_over_limit,
-    grid, hostile, pair, random_table, scatter, spread, Pair, Rng, Table,
+    all_complement, cell, distinct_ids, distinct_numbers, document_sets, far_over_limit, grid,
+    grid_beside, hostile, pair, random_table, scatter, spread, Pair, Rng, Table,
 };
 use crate::reference::Reference;
 use crate::{Call, MAX_COLUMNS, MAX_ROWS, MAX_SETS, MAX_SOURCE_ROWS};
@@ -178,44 +178,12 @@ pub enum Place {
 /// 64 rows: five groups of four, `apart` rows that complement nothing, and
 /// rows that complement all but these. There are 1,024 + `apart` maximal sets.
 ///
-/// A column is filled in all rows, with one number but for the rows apart,
-/// which fill nothing else. A row of a group fills its group's column, with
-/// another number than the others of its group. The rows that complement all
-/// fill five of ten further columns, the same number in each column, in
-/// different ways: an antichain, so that none subsumes another. They stand
-/// first in T if the columns of the groups, which they leave empty, come
-/// first, and last if their own columns come first.
+/// The rows that complement all leave the columns of the groups empty: they
+/// stand first in T if these columns come before their own, otherwise last.
 pub fn groups_of_four(rng: &mut Rng, apart: usize, place: Place) -> (Table, Table) {
-    const GROUPS: usize = 5;
-    const SIZE: usize = 4;
-    let own = MAX_COLUMNS - 1 - GROUPS;
-    let (key, groups_at, own_at) = match place {
-        Place::First => (GROUPS, 0, GROUPS + 1),
-        Place::Last => (own, own + 1, 0),
-    };
-    // Ascending, so that the rows apart follow those that complement all.
-    let mut numbers = distinct_numbers(rng, SIZE + apart);
-    numbers.sort_unstable();
-    let row = |key_number: u32| {
-        let mut row = vec![0; MAX_COLUMNS];
-        row[key] = cell(key_number);
-        row
-    };
-    let mut rows: Vec<Vec<u32>> = Vec::new();
-    for group in 0..GROUPS {
-        for &number in &numbers[..SIZE] {
-            let mut member = row(numbers[0]);
-            member[groups_at + group] = cell(number);
-            rows.push(member);
-        }
-    }
-    rows.extend(numbers[SIZE..].iter().map(|&number| row(number)));
-    for pattern in antichain(rng, own, own / 2, MAX_ROWS - rows.len()) {
-        let mut wide = row(numbers[0]);
-        for column in (0..own).filter(|&column| pattern[column]) {
-            wide[own_at + column] = cell(numbers[column % SIZE]);
-        }
-        rows.push(wide);
+    let mut rows = grid_beside(rng, &[4; 5], apart, MAX_ROWS - 20 - apart);
+    if let Place::Last = place {
+        rows.iter_mut().for_each(|row| row.reverse());
     }
     let ids = distinct_ids(rng, MAX_COLUMNS);
     spread(rng, &ids, &rows)

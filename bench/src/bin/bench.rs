@@ -10,6 +10,7 @@
 
 #[cfg(feature = "product")]
 use fusion_bench::ffi::Product;
+use fusion_bench::generate::Pair;
 use fusion_bench::reference::Reference;
 use fusion_bench::workloads::{growth_with_rows, growth_with_sets, workloads, Workload};
 use fusion_bench::{Call, Unions, ANSWER_WORDS, MAX_SET_WORDS, MAX_TABLE_WORDS};
@@ -100,6 +101,20 @@ impl Lane {
         }
     }
 
+    /// Runs one input and gives the answer and the words written.
+    fn run(&mut self, pair: &Pair, call: Call) -> (&[u32], &[u32], &[u32]) {
+        self.unions.run(
+            call,
+            &pair.first,
+            &pair.second,
+            &mut self.table,
+            &mut self.sets,
+            &mut self.answer,
+        );
+        let (words, set_words) = (self.answer[3] as usize, self.answer[7] as usize);
+        (&self.answer, &self.table[..words], &self.sets[..set_words])
+    }
+
     fn batch(&mut self, workload: &Workload, call: Call) {
         let time = self.time(workload, call, self.rounds);
         let calls = f64::from(self.rounds) * workload.pairs.len() as f64;
@@ -109,6 +124,18 @@ impl Lane {
     fn median(&mut self) -> f64 {
         self.times.sort_unstable_by(f64::total_cmp);
         self.times[self.times.len() / 2]
+    }
+}
+
+/// Stops the program where the lanes differ: their times would say nothing.
+fn compare(lanes: &mut [Lane], workload: &Workload, call: Call) {
+    let (first, others) = lanes.split_first_mut().unwrap();
+    for pair in &workload.pairs {
+        let expected = first.run(pair, call);
+        for other in others.iter_mut() {
+            let name = &workload.name;
+            assert!(other.run(pair, call) == expected, "'{name}': they differ");
+        }
     }
 }
 
@@ -152,6 +179,7 @@ fn sets(workload: &Workload) -> String {
 
 /// The line of one call on one workload.
 fn line(lanes: &mut [Lane], workload: &Workload, sets: &str, call: Call) {
+    compare(lanes, workload, call);
     let medians = measure(lanes, workload, call);
     let (name, call_name) = (&workload.name, call.name());
     print!("| {name} | {sets} | {call_name} | {:.0} |", medians[0]);
