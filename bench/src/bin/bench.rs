@@ -213,23 +213,27 @@ fn table(title: &str, lanes: &mut [Lane], workloads: &[Workload], calls: &[Call]
 }
 
 fn main() {
+    // With an argument, only the workloads whose names hold it.
+    let part = std::env::args().nth(1).unwrap_or_default();
+    let chosen = |mut list: Vec<Workload>| {
+        list.retain(|workload| workload.name.contains(&part));
+        list
+    };
     let mut lanes = vec![
         Lane::new(Box::new(Reference::new())),
         #[cfg(feature = "product")]
         Lane::new(Box::new(Product)),
     ];
     println!("Median of {BATCHES} batches, nanoseconds per call.");
-    table("Workloads", &mut lanes, &workloads(), &Call::ALL);
-    table(
-        "Growth with the rows",
-        &mut lanes,
-        &growth_with_rows(),
-        &Call::ALL,
-    );
-    table(
-        "Growth with the sets",
-        &mut lanes,
-        &growth_with_sets(),
-        &[Call::Complement],
-    );
+    for (title, list, calls) in [
+        ("Workloads", workloads(), &Call::ALL[..]),
+        ("Growth with the rows", growth_with_rows(), &Call::ALL),
+        (
+            "Growth with the sets",
+            growth_with_sets(),
+            &[Call::Complement],
+        ),
+    ] {
+        table(title, &mut lanes, &chosen(list), calls);
+    }
 }
