@@ -3,6 +3,7 @@ use mathlib.Core.Path.{_≡_, refl, sym, ap, ap₂, _∙_, subst}
 use mathlib.Core.Bool.{Bool, true, false, cond}
 use Prim.Native.Nat.{ℕ, zero, suc, _+_, _≤_, _<_}
 use native.Mathlib.Nat.{not-suc-le-zero, lt-suc-self}
+use native.Mathlib.Decide.{le-ind}
 use native.Mathlib.Omega.{arith}
 use Rattle.definitions.proofs.Bools.{bool-cases, bool-eq, clash, not-so}
 use Rattle.definitions.proofs.Lists.{below-cases}
@@ -78,3 +79,10 @@ size-parts (suc n) a b f =
 pub size-some : (n set k : ℕ) → Inside set n → In set k → 0 < sizeBelow n set
 size-some n zero k h p = absurd (clash p (has-none k))
 size-some n (suc set) k h p = omega (arith, size-next n (suc set) (omega arith) h)
+
+-- no more positions are counted where the set has none
+pub size-wide : (n width set : ℕ) → n ≤ width → Inside set n → sizeBelow width set ≡ sizeBelow n set
+unfolding sizeBelow
+size-wide n width set h f =
+    le-ind (λ (m : ℕ). sizeBelow m set ≡ sizeBelow n set) refl
+    (λ m l e. rw (not-so (has set m) (λ p. let lt = f m p in omega arith)) (omega arith)) width h

@@ -146,14 +146,15 @@ module _ (N : ℕ → ℕ) (n : ℕ) (g : Simple (adjacent N) n) where
           k,
         ))
 
-  pub parts-adds : (cap : ℕ) {rows calls : ℕ} {l out : List ℕ} → Parts N cap n rows l out calls → Inside rows n → Adds (Filled rows) cap l out
-  parts-adds cap {l = l} (ends e) h =
+  pub parts-adds : (cap width : ℕ) (fits : n ≤ width) {rows calls : ℕ} {l out : List ℕ} → Parts N cap width rows l out calls → Inside rows n → Adds (Filled rows) cap l out
+  parts-adds cap width fits {l = l} (ends e) h =
       adds-none cap _ l (λ few x q. clash (q .0 .inside (q .1 .0) (q .1 .1)) (ap (λ (y : ℕ). has y (q .1 .0)) e ∙ has-none (q .1 .0)))
-  parts-adds cap {l = l} (fills e) h = adds-none cap _ l (λ few x q. omega arith)
-  parts-adds cap {rows} {l = l} (next {part = part} common new few p c a b) h =
+  parts-adds cap width fits {l = l} (fills e) h = adds-none cap _ l (λ few x q. omega arith)
+  parts-adds cap width fits {rows} {l = l} (next {part = part} common new few p c a b) h =
       let within : Inside part n = λ k q. h k (p .within k q) in
-      let split : Split n 0 (butNot part common) (sizeBelow n (butNot part common)) =
+      let split : Split n width 0 (butNot part common) (sizeBelow width (butNot part common)) =
       record {
+        fits = fits;
         past = λ k q. absurd (clash q (has-none k));
         ahead = λ k q. within k (but-l part common k q);
         apart = λ k q. has-none k;
@@ -161,5 +162,5 @@ module _ (N : ℕ → ℕ) (n : ℕ) (g : Simple (adjacent N) n) where
       } in
       adds-both cap (M part) (Filled (butNot rows part)) (Filled rows)
       (of-part rows part h p) (of-others rows part h p) (one-of rows part h p) (apart rows part h p)
-      (common-adds part common within c cap l new (run-adds N n g cap a split))
-      (parts-adds cap b (λ k q. h k (but-l rows part k q)))
+      (common-adds part common within c cap l new (run-adds N n width g cap a split))
+      (parts-adds cap width fits b (λ k q. h k (but-l rows part k q)))

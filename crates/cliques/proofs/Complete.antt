@@ -6,7 +6,7 @@ use Prim.Native.Nat.{ℕ, suc, _-_, _≤_, _<_, min}
 use native.Mathlib.Omega.{arith}
 use lib.Dec.{eqb, ltb}
 use lib.ListN.{length, take, length-map}
-use lib.Seq.{length-take-le, getD-take}
+use lib.Seq.{length-take-le}
 use borrow.Author.Tests.{eqb-true, eqb-false, ltb-true, ltb-false}
 use Rattle.definitions.specs.Ascending.{ascending}
 use Rattle.definitions.specs.Limits.{maxSets}
@@ -59,14 +59,6 @@ pub none-found : (neighbours : List ℕ) (n : ℕ) (list : List ℕ) → n ≡ 0
 unfolding maximalSets keep subsets isComplementing allBelow
 none-found neighbours n list e = subst (λ (m : ℕ). AllSets neighbours m list 0) (sym e) (record { counts = refl; lists = λ h. refl })
 
--- maximal by one relation, and by another that is the same among the rows
-max-same : (p q : ℕ → ℕ → Bool) (n : ℕ) → ((j k : ℕ) → j < n → p j k ≡ q j k) → (x : ℕ) → Max p (rowsBelow n) x → Max q (rowsBelow n) x
-max-same p q n e x m = record {
-  inside = m .inside;
-  clique = λ j k hj hk d. sym (e j k (below-of n j (m .inside j hj))) ∙ m .clique j k hj hk d;
-  full = λ j h f. m .full j h (λ k r. e j k (below-of n j h) ∙ f k r);
-}
-
 -- all n rows
 pub all-rows : (n last below all : ℕ) → 0 < n → last ≡ n - 1 → below ≡ rowsBelow last → all ≡ withRow below last → all ≡ rowsBelow n
 all-rows n last below all pos el eb ea =
@@ -78,37 +70,16 @@ all-rows n last below all pos el eb ea =
     (λ t. let d = eqb-false k last t in has-with-old below last k (rw eb (below-in last k (omega arith))))))
 
 module _ (neighbours : List ℕ) (n : ℕ) (g : Graph neighbours n) where
-  -- the words of the first n rows
-  abbrev pub words : List ℕ
-  words = take n neighbours
+  pub start-rows : (width all : ℕ) → n ≤ width → all ≡ rowsBelow n → RowsOf width neighbours all
+  start-rows width all fits e = record { n = n; graph = g; bits = fits; inside = λ k h. below-of n k (rw e at h) }
 
-  pub size : length words ≡ n
-  size = length-take-le n neighbours (g .rows)
-
-  same : (j k : ℕ) → j < n → near words j k ≡ near neighbours j k
-  same j k h = ap (λ (x : ℕ). has x k) (getD-take n neighbours j 0 h)
-
-  own-graph : Graph words n
-  own-graph = record {
-    rows = omega (arith, size);
-    symmetric = λ j k hj hk. same j k hj ∙ g .symmetric j k hj hk ∙ sym (same k j hk);
-    apart = λ j h. same j j h ∙ g .apart j h;
-  }
-
-  pub start-rows : (width all : ℕ) → n ≤ width → all ≡ rowsBelow n → RowsOf width words all
-  start-rows width all fits e = record {
-    graph = rw size own-graph;
-    bits = omega (arith, size);
-    inside = λ k h. let l = below-of n k (rw e at h) in omega (arith, size);
-  }
-
-  module _ (list : List ℕ) (found all : ℕ) (pos : 0 < n) (fits : found ≤ length list) (few : found ≤ suc maxSets) (ea : all ≡ rowsBelow n)
-      (l : Listed (rowOf words) (suc maxSets) (length words) all [] (take found list)) where
+  module _ (width : ℕ) (bits-fit : n ≤ width) (list : List ℕ) (found all : ℕ) (pos : 0 < n) (fits : found ≤ length list) (few : found ≤ suc maxSets)
+      (ea : all ≡ rowsBelow n) (l : Listed (rowOf neighbours) (suc maxSets) width all [] (take found list)) where
     pub held : length (take found list) ≡ found
     held = length-take-le found list fits
 
     -- a maximal set of some rows is not empty
-    filled : (x : ℕ) → Max (near words) (rowsBelow n) x → (k : ℕ) × In x k
+    filled : (x : ℕ) → Max (near neighbours) (rowsBelow n) x → (k : ℕ) × In x k
     filled x m =
         bool-cases (eqb x 0)
         (λ t. absurd (m .full 0 (below-in n 0 pos) (λ k h. absurd (clash h (ap (λ (y : ℕ). has y k) (eqb-true x 0 t) ∙ has-none k)))))
@@ -116,12 +87,10 @@ module _ (neighbours : List ℕ) (n : ℕ) (g : Graph neighbours n) where
 
     adds : Adds (Max (near neighbours) (rowsBelow n)) (suc maxSets) [] (take found list)
     adds =
-        let of-parts : Adds (Filled (rowOf words) n (simple words n own-graph) all) (suc maxSets) [] (take found list) =
-        parts-adds (rowOf words) n (simple words n own-graph) (suc maxSets) (rw size at (l .1)) (λ k h. below-of n k (rw ea at h)) in
-        adds-same (suc maxSets) (Filled (rowOf words) n (simple words n own-graph) all) (Max (near neighbours) (rowsBelow n))
-        (λ x p. max-same (near words) (near neighbours) n same x (rw ea at (p .0)))
-        (λ x m. let own = max-same (near neighbours) (near words) n (λ j k h. sym (same j k h)) x m in (rw ea own, filled x own))
-        of-parts
+        adds-same (suc maxSets) (Filled (rowOf neighbours) n (simple neighbours n g) all) (Max (near neighbours) (rowsBelow n))
+        (λ x p. rw ea at (p .0))
+        (λ x m. (rw ea m, filled x m))
+        (parts-adds (rowOf neighbours) n (simple neighbours n g) (suc maxSets) width bits-fit (l .1) (λ k h. below-of n k (rw ea at h)))
 
     result : Counted (near neighbours) n (suc maxSets) (take found list)
     result = counted (near neighbours) n (simple neighbours n g) (suc maxSets) (take found list) pos (omega (arith, held)) adds

@@ -7,7 +7,7 @@ use native.Mathlib.Omega.{arith}
 use lib.ListN.{length, take, drop, length-append, length-map}
 use lib.Seq.{length-take-le, take-add, take-at, drop-at}
 use Rattle.definitions.proofs.Bools.{clash, not-so}
-use Rattle.bitsets.specs.Bits.{has, butNot, either, Inside, sizeBelow}
+use Rattle.bitsets.specs.Bits.{has, butNot, either, Inside, Sub, sizeBelow}
 use Rattle.bitsets.proofs.Bits.{has-none, but-l, but-out, sub-less}
 use Rattle.cliques.specs.Graph.{near}
 use Rattle.cliques.specs.Search.{rowOf, adjacent, Run, stops, lists, joins, leaves, takes, Ran, Ready}
@@ -29,23 +29,31 @@ run-extends {l = l} (takes h s m a b) =
 
 -- ---- the search of a part
 
+-- some of the rows
+pub part-rows : {width : ℕ} {neighbours : List ℕ} {rows : ℕ} → RowsOf width neighbours rows → (part : ℕ) → Sub part rows → RowsOf width neighbours part
+part-rows r part s = record { n = r .n; graph = r .graph; bits = r .bits; inside = λ k h. r .inside k (s k h) }
+
 module _ (cap : ℕ) {width : ℕ} {neighbours : List ℕ} {part : ℕ} (r : RowsOf width neighbours part) where
   module _ (common core : ℕ) (c : Common (near neighbours) part common) (e : core ≡ butNot part common) where
-    core-inside : Inside core (length neighbours)
+    core-inside : Inside core (r .n)
     core-inside k h = r .inside k (but-l part common k (rw e at h))
+
+    core-bits : Inside core width
+    core-bits k h = omega (arith, core-inside k h, r .bits)
 
     pub part-ready : (size : ℕ) → ((m : ℕ) → Inside core m → size ≡ sizeBelow m core) → (list : List ℕ) (count : ℕ) → cap ≤ length list → count ≤ cap
         → Ready width cap neighbours 0 core size 0 list count
     part-ready size es list count room few = record {
+      n = r .n;
       graph = r .graph;
-      bits = r .bits;
       split = record {
+        fits = r .bits;
         past = λ k h. absurd (clash h (has-none k));
         ahead = core-inside;
         apart = λ k h. has-none k;
-        counted = sym (es (length neighbours) core-inside);
+        counted = sym (es width core-bits);
       };
-      maximal = none-max (rowOf neighbours) (length neighbours) (simple neighbours (length neighbours) (r .graph));
+      maximal = none-max (rowOf neighbours) (r .n) width (simple neighbours (r .n) (r .graph));
       room = room;
       few = few;
     }
@@ -83,7 +91,7 @@ module _ (cap : ℕ) {width : ℕ} {neighbours : List ℕ} {part : ℕ} (r : Row
       after = sym (drop-at (take count list) (take (found - count) (drop count list)) count front) ∙ ap (drop count) halves ∙ drop-at (take count old) new count own
 
       pub part-searched : (f : List ℕ) (post : List ℕ) → f ≡ map (λ s. either s common) (take (found - count) (drop count list))
-          → Searched (rowOf neighbours) cap (length neighbours) part (take count old) (take found (take count list ++ (f ++ post)))
+          → Searched (rowOf neighbours) cap width part (take count old) (take found (take count list ++ (f ++ post)))
       part-searched f post ef =
           let mapped : f ≡ map (λ s. either s common) new = ef ∙ ap (map (λ s. either s common)) after in
           let whole : length (take count old ++ map (λ s. either s common) new) ≡ found =
@@ -93,8 +101,8 @@ module _ (cap : ℕ) {width : ℕ} {neighbours : List ℕ} {part : ℕ} (r : Row
             new = new;
             calls = run .0;
             rows = c;
-            run = subst (λ (x : ℕ). Run (rowOf neighbours) cap (sizeBelow (length neighbours) x) 0 x 0 (take count old) (take count old ++ new) (run .0)) e
-                (subst (λ (x : ℕ). Run (rowOf neighbours) cap x 0 core 0 (take count old) (take count old ++ new) (run .0)) (es (length neighbours) core-inside)
+            run = subst (λ (x : ℕ). Run (rowOf neighbours) cap (sizeBelow width x) 0 x 0 (take count old) (take count old ++ new) (run .0)) e
+                (subst (λ (x : ℕ). Run (rowOf neighbours) cap x 0 core 0 (take count old) (take count old ++ new) (run .0)) (es width core-bits)
                 (subst (λ (x : List ℕ). Run (rowOf neighbours) cap size 0 core 0 (take count old) x (run .0)) all (run .1)));
             sets = ap (take found) (ap₂ (λ (a b : List ℕ). a ++ (b ++ post)) before mapped ∙ sym (append-assoc (take count old) (map (λ s. either s common) new) post))
                 ∙ take-at (take count old ++ map (λ s. either s common) new) post found whole;
@@ -131,5 +139,5 @@ part-less near rest part left p e =
     rw e (sub-less (butNot rest part) rest (p .row) (but-l rest part) (p .within (p .row) (p .there))
     (not-so (has (butNot rest part) (p .row)) (λ h. clash (p .there) (but-out rest part (p .row) h))))
 
-pub left-inside : (rest part left n : ℕ) → left ≡ butNot rest part → Inside rest n → Inside left n
-left-inside rest part left n e h k q = h k (but-l rest part k (rw e at q))
+pub left-sub : (rest part left : ℕ) → left ≡ butNot rest part → Sub left rest
+left-sub rest part left e k q = but-l rest part k (rw e at q)

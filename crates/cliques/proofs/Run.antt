@@ -20,15 +20,19 @@ use Rattle.cliques.proofs.Adds.{adds-none, adds-one, adds-same, adds-bo
 
 -- ---- the undecided rows, one by one
 
-module _ {n d rest f : ℕ} (s : Split n d rest f) where
+module _ {n width d rest f : ℕ} (s : Split n width d rest f) where
+  -- the undecided rows have their bits
+  pub ahead-bits : Inside rest width
+  ahead-bits k h = omega (arith, s .ahead k h, s .fits)
+
   -- none is left
   pub split-none : f ≡ 0 → rest ≡ 0
-  split-none e = size-zero n rest (s .ahead) (s .counted ∙ e)
+  split-none e = size-zero width rest ahead-bits (s .counted ∙ e)
 
   pub split-some : (f ≡ 0 → ⊥) → 0 < rest
   split-some some =
       bool-cases (eqb rest 0)
-      (λ t. absurd (some (sym (s .counted) ∙ ap (sizeBelow n) (eqb-true rest 0 t) ∙ size-none n)))
+      (λ t. absurd (some (sym (s .counted) ∙ ap (sizeBelow width) (eqb-true rest 0 t) ∙ size-none width)))
       (λ t. let ne = eqb-false rest 0 t in omega arith)
 
   module _ (some : f ≡ 0 → ⊥) (i : ℕ) (e : i ≡ lowest rest) where
@@ -41,14 +45,15 @@ module _ {n d rest f : ℕ} (s : Split n d rest f) where
     pub split-new : has d i ≡ false
     split-new = s .apart i (first .there)
 
-    pub split-next : Split n (withRow d i) (withoutLowest rest) (f - 1)
+    pub split-next : Split n width (withRow d i) (withoutLowest rest) (f - 1)
     split-next = record {
+      fits = s .fits;
       past = λ k h. has-with-cases d i k h (s .past k) (λ p. rw p split-row);
       ahead = λ k h. s .ahead k (rest-in rest k h);
       apart = λ k h. not-so (has (withRow d i) k)
           (λ p. has-with-cases d i k p (λ q. clash q (s .apart k (rest-in rest k h)))
           (λ q. clash h (ap (has (withoutLowest rest)) q ∙ rest-out rest i first)));
-      counted = omega (arith, s .counted, size-next n rest (split-some some) (s .ahead));
+      counted = omega (arith, s .counted, size-next width rest (split-some some) ahead-bits);
     }
 
 -- ---- what the search may reach: x, by a step for each of f undecided rows
@@ -57,16 +62,16 @@ abbrev pub Reach : (ℕ → ℕ) → ℕ → ℕ → ℕ → ℕ → ℕ → Typ
 Reach N x zero d rest set = set ≡ x
 Reach N x (suc f) d rest set = (next : ℕ) × Step N d (lowest rest) set next × Reach N x f (withRow d (lowest rest)) (withoutLowest rest) next
 
-module _ (N : ℕ → ℕ) (n : ℕ) (g : Simple (adjacent N) n) where
+module _ (N : ℕ → ℕ) (n width : ℕ) (g : Simple (adjacent N) n) where
   abbrev M : ℕ → ℕ → Type 0
   M = Max (adjacent N)
 
-  module _ {f d rest : ℕ} (s : Split n d rest (suc f)) where
+  module _ {f d rest : ℕ} (s : Split n width d rest (suc f)) where
     some : suc f ≡ 0 → ⊥
     some e = omega arith
 
-    next-split : Split n (withRow d (lowest rest)) (withoutLowest rest) f
-    next-split = subst (Split n (withRow d (lowest rest)) (withoutLowest rest)) (omega arith) (split-next s some (lowest rest) refl)
+    next-split : Split n width (withRow d (lowest rest)) (withoutLowest rest) f
+    next-split = subst (Split n width (withRow d (lowest rest)) (withoutLowest rest)) (omega arith) (split-next s some (lowest rest) refl)
 
     next-max : (set next : ℕ) → M d set → Step N d (lowest rest) set next → M (withRow d (lowest rest)) next
     next-max = step-max N n g d (s .past) (lowest rest) (split-row s some (lowest rest) refl) (split-new s some (lowest rest) refl)
@@ -79,7 +84,7 @@ module _ (N : ℕ → ℕ) (n : ℕ) (g : Simple (adjacent N) n) where
     next-one = one-parent N n g d (s .past) (lowest rest) (split-row s some (lowest rest) refl) (split-new s some (lowest rest) refl)
 
   -- a set is reached from one set alone
-  one-way : (x f d rest b c : ℕ) → Split n d rest f → M d b → M d c → Reach N x f d rest b → Reach N x f d rest c → b ≡ c
+  one-way : (x f d rest b c : ℕ) → Split n width d rest f → M d b → M d c → Reach N x f d rest b → Reach N x f d rest c → b ≡ c
   one-way x zero d rest b c s mb mc r q = r ∙ sym q
   one-way x (suc f) d rest b c s mb mc r q =
       let same : r .0 ≡ q .0 =
@@ -87,7 +92,7 @@ module _ (N : ℕ → ℕ) (n : ℕ) (g : Simple (adjacent N) n) where
       next-one s b c (r .0) mb mc (r .1) (subst (Step N d (lowest rest) c) (sym same) (q .1))
 
   -- so taking a row leads to no set that leaving it leads to
-  apart : (x f d rest set : ℕ) → Split n d rest (suc f) → M d set → Step N d (lowest rest) set (taken N set (lowest rest)) → Step N d (lowest rest) set set
+  apart : (x f d rest set : ℕ) → Split n width d rest (suc f) → M d set → Step N d (lowest rest) set (taken N set (lowest rest)) → Step N d (lowest rest) set set
       → Reach N x f (withRow d (lowest rest)) (withoutLowest rest) (taken N set (lowest rest)) → Reach N x f (withRow d (lowest rest)) (withoutLowest rest) set → ⊥
   apart x f d rest set s m t l r q =
       let i = lowest rest in
@@ -107,7 +112,7 @@ module _ (N : ℕ → ℕ) (n : ℕ) (g : Simple (adjacent N) n) where
   left-to s (took t m e) f h = h m e
 
   module _ (cap : ℕ) where
-    run-reach : {f d rest set calls : ℕ} {l out : List ℕ} → Run N cap f d rest set l out calls → Split n d rest f → M d set
+    run-reach : {f d rest set calls : ℕ} {l out : List ℕ} → Run N cap f d rest set l out calls → Split n width d rest f → M d set
         → Adds (λ x. Reach N x f d rest set) cap l out
     run-reach {l = l} (stops h) s m = adds-none cap _ l (λ few x p. omega arith)
     run-reach {set = set} {l = l} (lists h) s m = adds-one cap _ l set refl (λ y p. sym p)
@@ -149,7 +154,7 @@ module _ (N : ℕ → ℕ) (n : ℕ) (g : Simple (adjacent N) n) where
       same-set d rows (λ k h. w k .1 (inl h))
       (λ k h. ⊎-elim (λ p. p) (λ p. absurd (clash p (ap (λ (x : ℕ). has x k) e ∙ has-none k))) (w k .0 h))
 
-  whole-next : {f d rest : ℕ} (rows : ℕ) → Split n d rest (suc f) → Whole rows d rest → Whole rows (withRow d (lowest rest)) (withoutLowest rest)
+  whole-next : {f d rest : ℕ} (rows : ℕ) → Split n width d rest (suc f) → Whole rows d rest → Whole rows (withRow d (lowest rest)) (withoutLowest rest)
   whole-next {d = d} {rest = rest} rows s w k =
       let i = lowest rest in
       let low : Lowest rest i = at-lowest rest i (split-some s (some s)) refl in (
@@ -163,13 +168,13 @@ module _ (N : ℕ → ℕ) (n : ℕ) (g : Simple (adjacent N) n) where
             (λ p. w k .1 (inr (rest-in rest k p))) c,
       )
 
-  reach-max : (x f d rest set rows : ℕ) → Split n d rest f → Whole rows d rest → M d set → Reach N x f d rest set → M rows x
+  reach-max : (x f d rest set rows : ℕ) → Split n width d rest f → Whole rows d rest → M d set → Reach N x f d rest set → M rows x
   reach-max x zero d rest set rows s w m r =
       subst (λ (y : ℕ). M y x) (whole-end rows d rest w (split-none s refl)) (subst (M d) r m)
   reach-max x (suc f) d rest set rows s w m r =
       reach-max x f (withRow d (lowest rest)) (withoutLowest rest) (r .0) rows (next-split s) (whole-next rows s w) (next-max s set (r .0) m (r .1)) (r .2)
 
-  reached : (x f d rest rows : ℕ) → Split n d rest f → Whole rows d rest → M rows x → (set : ℕ) × M d set × Reach N x f d rest set
+  reached : (x f d rest rows : ℕ) → Split n width d rest f → Whole rows d rest → M rows x → (set : ℕ) × M d set × Reach N x f d rest set
   reached x zero d rest rows s w m = (x, subst (λ (y : ℕ). M y x) (sym (whole-end rows d rest w (split-none s refl))) m, refl)
   reached x (suc f) d rest rows s w m =
       let r = reached x f (withRow d (lowest rest)) (withoutLowest rest) rows (next-split s) (whole-next rows s w) m in
@@ -187,7 +192,7 @@ module _ (N : ℕ → ℕ) (n : ℕ) (g : Simple (adjacent N) n) where
   none-only : (set : ℕ) → M 0 set → set ≡ 0
   none-only set m = has-ext set 0 (λ k. not-so (has set k) (λ h. clash (m .inside k h) (has-none k)) ∙ sym (has-none k))
 
-  pub run-adds : (cap : ℕ) {f rows calls : ℕ} {l out : List ℕ} → Run N cap f 0 rows 0 l out calls → Split n 0 rows f → Adds (M rows) cap l out
+  pub run-adds : (cap : ℕ) {f rows calls : ℕ} {l out : List ℕ} → Run N cap f 0 rows 0 l out calls → Split n width 0 rows f → Adds (M rows) cap l out
   run-adds cap {f} {rows} a s =
       let w : Whole rows 0 rows = λ k. (λ h. inr h, λ c. ⊎-elim (λ p. absurd (clash p (has-none k))) (λ p. p) c) in
       adds-same cap (λ x. Reach N x f 0 rows 0) (M rows)

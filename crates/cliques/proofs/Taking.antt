@@ -100,11 +100,15 @@ module _ (N : ℕ → ℕ) (free set : ℕ) where
           → Walk (adjacent N) free set next
       walk-turn clique there less next el en = rw (en, el) (walk-on clique there)
 
+-- what is left of the rows
+pub left : (rest less near next : ℕ) → less ≡ withoutLowest rest → next ≡ both less near → (k : ℕ) → In next k → In rest k
+left rest less near next el en k h = rest-in rest k (ap (λ (x : ℕ). has x k) (sym el) ∙ both-l less near k (ap (λ (x : ℕ). has x k) (sym en) ∙ h))
+
 -- ---- the answer
 
 module _ {width : ℕ} {neighbours : List ℕ} {decided set i : ℕ} (a : Asked width neighbours decided set i) where
   abbrev n : ℕ
-  n = length neighbours
+  n = a .n
 
   abbrev N : ℕ → ℕ
   N = rowOf neighbours
@@ -115,8 +119,8 @@ module _ {width : ℕ} {neighbours : List ℕ} {decided set i : ℕ} (a : Asked 
   turned : (j k : ℕ) → j < n → k < n → In (N j) k → In (N k) j
   turned j k hj hk h = sym (a .graph .symmetric j k hj hk) ∙ h
 
-  pub kept-inside : (rest : ℕ) → rest ≡ kept N set i → Inside rest n
-  kept-inside rest e k h = own k (both-l set (N i) k (rw e at h))
+  pub kept-inside : (rest : ℕ) → rest ≡ kept N set i → Inside rest (length neighbours)
+  kept-inside rest e k h = omega (arith, own k (both-l set (N i) k (rw e at h)), a .graph .rows)
 
   module _ (free rest : ℕ) (e : rest ≡ kept N set i) (f : Free (near neighbours) rest decided free) where
     -- a free row complements what is kept, and a decided row that does is free
@@ -126,8 +130,11 @@ module _ {width : ℕ} {neighbours : List ℕ} {decided set i : ℕ} (a : Asked 
     near-free : (j : ℕ) → In decided j → NearAll (near neighbours) (kept N set i) j → In free j
     near-free j h near = f .all j h (λ k p. let q = rw e at p in turned j k (a .past j h) (own k (both-l set (N i) k q)) (near k q))
 
-    pub free-inside : Inside free n
-    free-inside k h = a .past k (f .within k h)
+    pub free-inside : Inside free (length neighbours)
+    free-inside k h = omega (arith, a .past k (f .within k h), a .graph .rows)
+
+    pub free-bits : Inside free width
+    free-bits k h = omega (arith, a .past k (f .within k h), a .bits)
 
     -- a free row complements row i
     pub told-blocked : (r : ℕ) → r ≡ both free (N i) → (r ≡ 0 → ⊥) → Told (MayTake N decided set i) false

@@ -47,26 +47,30 @@ module _ {width cap : ℕ} {neighbours : List ℕ} {decided rest undecided set :
   abbrev N : ℕ → ℕ
   N = rowOf neighbours
 
-  abbrev s : Split (length neighbours) decided rest undecided
+  abbrev s : Split (t .ready .n) width decided rest undecided
   s = t .ready .split
 
-  pub row-below : i < length neighbours
+  pub row-below : i < t .ready .n
   row-below = split-row s (t .some) i (t .row)
 
   pub row-bit : i < width
-  row-bit = omega (arith, row-below, t .ready .bits)
+  row-bit = omega (arith, row-below, s .fits)
+
+  -- the graph has a word for the row
+  pub row-within : i < length neighbours
+  row-within = omega (arith, row-below, t .ready .graph .rows)
 
   pub asked : Asked width neighbours decided set i
-  asked = record { graph = t .ready .graph; bits = t .ready .bits; past = s .past; maximal = t .ready .maximal; row = row-below }
+  asked = record { n = t .ready .n; graph = t .ready .graph; bits = s .fits; past = s .past; maximal = t .ready .maximal; row = row-below }
 
   ready-step : (next : ℕ) → Step N decided i set next → (out : List ℕ) (found : ℕ) → length out ≡ length list → found ≤ cap
       → Ready width cap neighbours known later (undecided - 1) next out found
   ready-step next step out found size few = record {
+    n = t .ready .n;
     graph = t .ready .graph;
-    bits = t .ready .bits;
     split = rw (t .rows-known, t .rows-later) (split-next s (t .some) i (t .row));
     maximal = rw (t .rows-known)
-        (step-max N (length neighbours) (simple neighbours (length neighbours) (t .ready .graph)) decided (s .past) i row-below
+        (step-max N (t .ready .n) (simple neighbours (t .ready .n) (t .ready .graph)) decided (s .past) i row-below
         (split-new s (t .some) i (t .row)) set next (t .ready .maximal) step);
     room = omega (arith, t .ready .room);
     few = few;

@@ -13,11 +13,11 @@ use Rattle.definitions.specs.ComplementUnion.{maximalSets}
 use Rattle.definitions.proofs.Bools.{bool-cases, clash}
 use Rattle.bitsets.specs.Bits.{butNot, either, Inside, rowsBelow, sizeBelow}
 use Rattle.bitsets.proofs.Bits.{but-l, below-of, below-in}
-use Rattle.bitsets.proofs.Sizes.{size-none, size-all, size-sub, size-parts, size-some}
+use Rattle.bitsets.proofs.Sizes.{size-all, size-sub, size-parts, size-some, size-wide}
 use Rattle.cliques.specs.Graph.{near, Graph}
 use Rattle.cliques.specs.Search.{rowOf, Run, stops, lists, joins, leaves, takes, Ready}
 use Rattle.cliques.specs.Parts.{Part, Common, Parts, ends, fills, next, Listed}
-use Rattle.cliques.proofs.Complete.{words, size, held, number}
+use Rattle.cliques.proofs.Complete.{held, number}
 
 -- ---- a call on a list that is not full, with f rows undecided
 
@@ -96,14 +96,14 @@ module _ (N : ℕ → ℕ) (cap : ℕ) where
   sum f p (suc q) s t first later le pos a none extra ex b =
       omega (arith, mul-le-mul-right {m = f} {n = p} s le, add-mul p (suc q) (s + t), mul-add p s t, mul-add (suc q) s t, suc-mul q s)
 
-  module _ (n : ℕ) where
+  module _ (width : ℕ) where
     -- no call is made on a full list
-    over : {rows calls : ℕ} {l out : List ℕ} → Parts N cap n rows l out calls → cap ≤ length l → calls ≡ 0
+    over : {rows calls : ℕ} {l out : List ℕ} → Parts N cap width rows l out calls → cap ≤ length l → calls ≡ 0
     over (ends e) h = refl
     over (fills e) h = refl
     over (next common new few p c a b) h = absurd (omega arith)
 
-    pub total : {rows calls : ℕ} {l out : List ℕ} → Parts N cap n rows l out calls → Inside rows n → Total (sizeBelow n rows) l out calls
+    pub total : {rows calls : ℕ} {l out : List ℕ} → Parts N cap width rows l out calls → Inside rows width → Total (sizeBelow width rows) l out calls
     total {l = l} (ends e) h = record {
       more = 0;
       grown = omega arith;
@@ -122,36 +122,36 @@ module _ (N : ℕ → ℕ) (cap : ℕ) where
         let core = butNot part common in
         let mid = l ++ map (λ s. either s common) new in
         let s = length new in
-        let first : Bounded cap (sizeBelow n core) l (l ++ new) calls = bounded a few in
-        let rest : Total (sizeBelow n (butNot rows part)) mid out later = total b (λ k q. h k (but-l rows part k q)) in
+        let first : Bounded cap (sizeBelow width core) l (l ++ new) calls = bounded a few in
+        let rest : Total (sizeBelow width (butNot rows part)) mid out later = total b (λ k q. h k (but-l rows part k q)) in
         let size : length mid ≡ length l + s = length-append l (map (λ s. either s common) new) ∙ ap (λ (k : ℕ). length l + k) (length-map new (λ s. either s common)) in
         let own : length (l ++ new) ≡ length l + s = length-append l new in
-        let wide : sizeBelow n core ≤ sizeBelow n part = size-sub n core part (but-l part common) in
-        let rows-are : sizeBelow n rows ≡ sizeBelow n part + sizeBelow n (butNot rows part) = size-parts n rows part (p .within) in
-        let some : 0 < sizeBelow n part = size-some n part (p .row) (λ k q. h k (p .within k q)) (p .there) in
+        let wide : sizeBelow width core ≤ sizeBelow width part = size-sub width core part (but-l part common) in
+        let rows-are : sizeBelow width rows ≡ sizeBelow width part + sizeBelow width (butNot rows part) = size-parts width rows part (p .within) in
+        let some : 0 < sizeBelow width part = size-some width part (p .row) (λ k q. h k (p .within k q)) (p .there) in
         let pos : 0 < s = omega (arith, first .gains) in
-        let spread : sizeBelow n core * length (l ++ new) ≡ sizeBelow n core * length l + sizeBelow n core * s =
-        ap (λ (k : ℕ). sizeBelow n core * k) own ∙ mul-add (sizeBelow n core) (length l) s in
+        let spread : sizeBelow width core * length (l ++ new) ≡ sizeBelow width core * length l + sizeBelow width core * s =
+        ap (λ (k : ℕ). sizeBelow width core * k) own ∙ mul-add (sizeBelow width core) (length l) s in
         record {
           more = s + rest .more;
           grown = omega (arith, rest .grown);
           none = λ e. absurd (omega arith);
           done = λ small.
-              let under : calls ≤ suc (sizeBelow n core * s) = omega (arith, first .done (omega (arith, rest .grown))) in
+              let under : calls ≤ suc (sizeBelow width core * s) = omega (arith, first .done (omega (arith, rest .grown))) in
               subst (λ (k : ℕ). calls + later ≤ suc (k * (s + rest .more))) (sym rows-are)
               (omega (
                 arith,
-                sum (sizeBelow n core) (sizeBelow n part) (sizeBelow n (butNot rows part)) s (rest .more) calls later wide pos under (rest .none) 0 zero-le
+                sum (sizeBelow width core) (sizeBelow width part) (sizeBelow width (butNot rows part)) s (rest .more) calls later wide pos under (rest .none) 0 zero-le
                     (omega (arith, rest .done small)),
               ));
           full = subst (λ (k : ℕ). calls + later ≤ suc (k * (s + rest .more) + k)) (sym rows-are)
               (bool-cases (ltb (length mid) cap)
               (λ u.
-              let under : calls ≤ suc (sizeBelow n core * s) = omega (arith, first .done (omega (arith, ltb-true (length mid) cap u))) in
+              let under : calls ≤ suc (sizeBelow width core * s) = omega (arith, first .done (omega (arith, ltb-true (length mid) cap u))) in
               omega (
                 arith,
-                sum (sizeBelow n core) (sizeBelow n part) (sizeBelow n (butNot rows part)) s (rest .more) calls later wide pos under (rest .none)
-                    (sizeBelow n (butNot rows part)) (omega arith) (rest .full),
+                sum (sizeBelow width core) (sizeBelow width part) (sizeBelow width (butNot rows part)) s (rest .more) calls later wide pos under (rest .none)
+                    (sizeBelow width (butNot rows part)) (omega arith) (rest .full),
               ))
               (λ u.
               let z = over b (ltb-false (length mid) cap u) in
@@ -159,55 +159,58 @@ module _ (N : ℕ → ℕ) (cap : ℕ) where
                 arith,
                 z,
                 first .full,
-                mul-le-mul-right {m = sizeBelow n core} {n = sizeBelow n part} s wide,
-                add-mul (sizeBelow n part) (sizeBelow n (butNot rows part)) (s + rest .more),
-                mul-add (sizeBelow n part) s (rest .more),
+                mul-le-mul-right {m = sizeBelow width core} {n = sizeBelow width part} s wide,
+                add-mul (sizeBelow width part) (sizeBelow width (butNot rows part)) (s + rest .more),
+                mul-add (sizeBelow width part) s (rest .more),
               )));
         }
 
 -- ---- the whole of `find_sets`: n rows, and no set in the list before
 
-module _ (N : ℕ → ℕ) (cap n : ℕ) {out : List ℕ} {calls : ℕ} (p : Parts N cap n (rowsBelow n) [] out calls) where
-  all : Total N cap (sizeBelow n (rowsBelow n)) [] out calls
-  all = total N cap n p (below-of n)
+module _ (N : ℕ → ℕ) (cap width n : ℕ) (fits : n ≤ width) {out : List ℕ} {calls : ℕ} (p : Parts N cap width (rowsBelow n) [] out calls) where
+  all : Total N cap (sizeBelow width (rowsBelow n)) [] out calls
+  all = total N cap width p (λ k h. omega (arith, below-of n k h))
 
   sets : all .more ≡ length out
   sets = omega (arith, all .grown)
 
+  rows : sizeBelow width (rowsBelow n) ≡ n
+  rows = size-wide n width (rowsBelow n) fits (below-of n) ∙ size-all n
+
   -- where not all sets were cut off, rows × sets + 1 calls at most
   pub calls-done : length out < cap → calls ≤ suc (n * length out)
-  calls-done few = subst (λ (k : ℕ). calls ≤ suc (k * length out)) (size-all n) (subst (λ (k : ℕ). calls ≤ suc (sizeBelow n (rowsBelow n) * k)) sets (all .done few))
+  calls-done few =
+      subst (λ (k : ℕ). calls ≤ suc (k * length out)) rows (subst (λ (k : ℕ). calls ≤ suc (sizeBelow width (rowsBelow n) * k)) sets (all .done few))
 
   -- and in any case as many more as there are rows
   pub calls-bound : calls ≤ suc (n * length out + n)
   calls-bound =
-      subst (λ (k : ℕ). calls ≤ suc (k * length out + k)) (size-all n)
-      (subst (λ (k : ℕ). calls ≤ suc (sizeBelow n (rowsBelow n) * k + sizeBelow n (rowsBelow n))) sets (all .full))
+      subst (λ (k : ℕ). calls ≤ suc (k * length out + k)) rows
+      (subst (λ (k : ℕ). calls ≤ suc (sizeBelow width (rowsBelow n) * k + sizeBelow width (rowsBelow n))) sets (all .full))
 
   -- for a list that takes no more than `cap` sets, whatever the graph
   pub calls-most : length out ≤ cap → calls ≤ suc (n * cap + n)
   calls-most few = omega (arith, calls-bound, mul-le-mul-left n few)
 
 -- at most 64 × 1,025 + 64 + 1 calls, for any graph
-pub most-calls : (N : ℕ → ℕ) (n : ℕ) {out : List ℕ} {calls : ℕ} → n ≤ maxUnionRows → Parts N (suc maxSets) n (rowsBelow n) [] out calls → length out ≤ suc maxSets
-    → calls ≤ suc (maxUnionRows * suc maxSets + maxUnionRows)
-most-calls N n h p few = omega (arith, calls-most N (suc maxSets) n p few)
+pub most-calls : (N : ℕ → ℕ) (n : ℕ) {out : List ℕ} {calls : ℕ} → n ≤ maxUnionRows → Parts N (suc maxSets) maxUnionRows (rowsBelow n) [] out calls
+    → length out ≤ suc maxSets → calls ≤ suc (maxUnionRows * suc maxSets + maxUnionRows)
+most-calls N n h p few = omega (arith, calls-most N (suc maxSets) maxUnionRows n h p few)
 
 -- of what `list_parts` promises, where there are at most 1,024 maximal sets: at most n calls for each, and one more
-pub few-calls : (neighbours : List ℕ) (n : ℕ) (g : Graph neighbours n) (list : List ℕ) (found all : ℕ) → 0 < n → found ≤ length list → found ≤ suc maxSets
-    → all ≡ rowsBelow n → (l : Listed (rowOf (words neighbours n g)) (suc maxSets) (length (words neighbours n g)) all [] (take found list))
+pub few-calls : (neighbours : List ℕ) (n : ℕ) (g : Graph neighbours n) (width : ℕ) (bits : n ≤ width) (list : List ℕ) (found all : ℕ) → 0 < n
+    → found ≤ length list → found ≤ suc maxSets → all ≡ rowsBelow n → (l : Listed (rowOf neighbours) (suc maxSets) width all [] (take found list))
     → length (maximalSets (near neighbours) n) ≤ maxSets → l .0 ≤ suc (n * length (maximalSets (near neighbours) n))
-few-calls neighbours n g list found all pos fits few ea l small =
-    let number = number neighbours n g list found all pos fits few ea l in
-    let held = held neighbours n g list found all pos fits few ea l in
+few-calls neighbours n g width bits list found all pos fits few ea l small =
+    let number = number neighbours n g width bits list found all pos fits few ea l in
+    let held = held neighbours n g width bits list found all pos fits few ea l in
     let same : length (take found list) ≡ length (maximalSets (near neighbours) n) = omega arith in
     subst (λ (k : ℕ). l .0 ≤ suc (n * k)) same
-    (calls-done (rowOf (words neighbours n g)) (suc maxSets) n
-    (subst (λ (x : ℕ). Parts (rowOf (words neighbours n g)) (suc maxSets) n x [] (take found list) (l .0)) ea
-    (subst (λ (m : ℕ). Parts (rowOf (words neighbours n g)) (suc maxSets) m all [] (take found list) (l .0)) (size neighbours n g) (l .1))) (omega arith))
+    (calls-done (rowOf neighbours) (suc maxSets) width n bits
+    (subst (λ (x : ℕ). Parts (rowOf neighbours) (suc maxSets) width x [] (take found list) (l .0)) ea (l .1)) (omega arith))
 
 -- calls are open inside each other while the count of undecided rows falls: with the last, which decides none, at most one more than there are rows
 pub most-open : {width cap : ℕ} {neighbours : List ℕ} {decided rest undecided set : ℕ} {list : List ℕ} {count : ℕ}
     → Ready width cap neighbours decided rest undecided set list count → undecided ≤ width
-most-open {neighbours = neighbours} {rest = rest} r =
-    omega (arith, r .bits, r .split .counted, size-sub (length neighbours) rest (rowsBelow (length neighbours)) (λ k h. below-in (length neighbours) k (r .split .ahead k h)), size-all (length neighbours))
+most-open {width} {rest = rest} r =
+    omega (arith, r .split .counted, size-sub width rest (rowsBelow width) (λ k h. below-in width k (omega (arith, r .split .ahead k h, r .split .fits))), size-all width)

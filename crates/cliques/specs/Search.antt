@@ -17,12 +17,13 @@ rowOf neighbours j = getD neighbours j 0
 abbrev pub adjacent : (ℕ → ℕ) → ℕ → ℕ → Bool
 adjacent N j k = has (N j) k
 
--- n rows fall into decided and undecided ones, `rest`, which are counted
-pub record Split (n decided rest undecided : ℕ) : Type 0 where
+-- n rows, each with a bit of a word of `width` bits, fall into decided and undecided ones, `rest`, which are counted
+pub record Split (n width decided rest undecided : ℕ) : Type 0 where
+  pub fits : n ≤ width
   pub past : Inside decided n
   pub ahead : Inside rest n
   pub apart : (k : ℕ) → has rest k ≡ true → has decided k ≡ false
-  pub counted : sizeBelow n rest ≡ undecided
+  pub counted : sizeBelow width rest ≡ undecided
 
 module _ (N : ℕ → ℕ) where
   -- what row i leaves of a set
@@ -69,23 +70,24 @@ module _ (N : ℕ → ℕ) where
 abbrev pub Ran : (ℕ → ℕ) → ℕ → ℕ → ℕ → ℕ → ℕ → List ℕ → List ℕ → Type 0
 Ran N cap undecided decided rest set list out = (calls : ℕ) × Run N cap undecided decided rest set list out calls
 
--- The search may go on: the words are a graph, each row has a bit of a word, the set is maximal among the decided rows, and the list has
+-- The search may go on: the words are a graph of n rows, the set is maximal among the decided rows, and the list has
 -- room for `cap` sets, of which no more are found yet.
 pub record Ready (width cap : ℕ) (neighbours : List ℕ) (decided rest undecided set : ℕ) (list : List ℕ) (count : ℕ) : Type 0 where
-  pub graph : Graph neighbours (length neighbours)
-  pub bits : length neighbours ≤ width
-  pub split : Split (length neighbours) decided rest undecided
+  pub n : ℕ
+  pub graph : Graph neighbours n
+  pub split : Split n width decided rest undecided
   pub maximal : Max (near neighbours) decided set
   pub room : cap ≤ length list
   pub few : count ≤ cap
 
 -- the same without a list: row i is undecided, and may be taken or not
 pub record Asked (width : ℕ) (neighbours : List ℕ) (decided set i : ℕ) : Type 0 where
-  pub graph : Graph neighbours (length neighbours)
-  pub bits : length neighbours ≤ width
-  pub past : Inside decided (length neighbours)
+  pub n : ℕ
+  pub graph : Graph neighbours n
+  pub bits : n ≤ width
+  pub past : Inside decided n
   pub maximal : Max (near neighbours) decided set
-  pub row : i < length neighbours
+  pub row : i < n
 
 -- r holds the rows of `start` that complement each row of the set
 pub record Free (near : ℕ → ℕ → Bool) (set start r : ℕ) : Type 0 where

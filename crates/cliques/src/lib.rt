@@ -9,6 +9,7 @@ use bitsets::below;
 use bitsets::with_row;
 use merging::order_sets;
 use parts::list_parts;
+use search::MAX_ROWS;
 use search::MAX_SETS;
 ghost use Prim.Native.Nat.{suc, _≤_};
 ghost use lib.ListN.{length};
@@ -16,7 +17,7 @@ ghost use Rattle.definitions.specs.Limits.{maxSets, maxUnionRows};
 ghost use Rattle.cliques.specs.Graph.{Graph, AllSets};
 
 // Lists the maximal sets of the first n rows, and gives their number: of more than 1,024 it gives 1,025, and what the list holds is open.
-pub fn find_sets(neighbours: &[u64], n: usize, list: &mut [u64]) -> usize
+pub fn find_sets(neighbours: &[u64; MAX_ROWS], n: usize, list: &mut [u64; MAX_SETS + 1]) -> usize
     requires { ⌜ Graph (now neighbours) n × (n ≤ maxUnionRows) × (suc maxSets ≤ length (now list)) ⌝ }
     ensures { λ r. ⌜ AllSets (now (neighbours .entry)) n (now (list .exit)) r ⌝ }
 {
@@ -24,7 +25,7 @@ pub fn find_sets(neighbours: &[u64], n: usize, list: &mut [u64]) -> usize
         return 0;
     }
     let last = n - 1;
-    let found = list_parts(&neighbours[..n], with_row(below(last), last), list);
+    let found = list_parts(neighbours, with_row(below(last), last), list);
     if MAX_SETS < found {
         return found;
     }

@@ -1,4 +1,5 @@
 // The rows part by part: a maximal set lies in one connected part of the graph, and holds the rows that complement all others of the part.
+use crate::search::MAX_ROWS;
 use crate::search::MAX_SETS;
 use crate::search::search;
 use bitsets::is_sub;
@@ -17,7 +18,7 @@ ghost use Rattle.definitions.specs.Limits.{maxSets, maxUnionRows};
 ghost use Rattle.bitsets.specs.Bits.{Inside, either};
 ghost use Rattle.cliques.specs.Graph.{near, Graph};
 ghost use Rattle.cliques.specs.Search.{rowOf};
-ghost use Rattle.cliques.specs.Parts.{Part, Common, RowsOf, Searched, Listed};
+ghost use Rattle.cliques.specs.Parts.{Part, Common, RowsOf, Searched, Listed, changed};
 
 // The connected part of the first of the rows: a row of it is put in, and the rows that complement it are put in later.
 fn part_of(neighbours: &[u64], rows: u64) -> u64
@@ -52,7 +53,7 @@ fn common_rows(neighbours: &[u64], part: u64) -> u64
 }
 
 // Puts rows into each set of the list.
-fn add_rows(list: &mut [u64], rows: u64)
+fn add_to_each(list: &mut [u64], rows: u64)
     ensures { λ _. ⌜ now (list .exit) ≡ map (λ s. either s rows) (now (list .entry)) ⌝ }
 {
     let mut k = 0;
@@ -62,24 +63,41 @@ fn add_rows(list: &mut [u64], rows: u64)
     }
 }
 
+// Puts rows into the sets from one place to another.
+fn add_rows(list: &mut [u64], from: usize, to: usize, rows: u64)
+    requires { ⌜ (from ≤ to) × (to ≤ length (now list)) ⌝ }
+    ensures { λ _. ⌜ now (list .exit) ≡ changed from to (λ s. either s rows) (now (list .entry)) ⌝ }
+{
+    add_to_each(&mut list[from..to], rows);
+}
+
 // Lists the maximal sets of a part after the first count sets, and gives the grown count. The rows that are in all of them are left out of the
 // search, and put into each set afterwards.
-fn list_part(neighbours: &[u64], part: u64, list: &mut [u64], count: usize) -> usize
+fn list_part(
+    neighbours: &[u64; MAX_ROWS],
+    part: u64,
+    list: &mut [u64; MAX_SETS + 1],
+    count: usize,
+) -> usize
     requires { ⌜ RowsOf maxUnionRows (now neighbours) part × (count ≤ maxSets) × (suc maxSets ≤ length (now list)) ⌝ }
-    ensures { λ r. ⌜ (r ≤ suc maxSets) × Searched (rowOf (now (neighbours .entry))) (suc maxSets) (length (now (neighbours .entry))) part
+    ensures { λ r. ⌜ (r ≤ suc maxSets) × (length (now (list .exit)) ≡ length (now (list .entry))) × Searched (rowOf (now (neighbours .entry))) (suc maxSets) maxUnionRows part
         (take count (now (list .entry))) (take r (now (list .exit))) ⌝ }
 {
     let common = common_rows(neighbours, part);
     let core = minus(part, common);
     let found = search(neighbours, 0, core, size(core), 0, list, count);
-    add_rows(&mut list[count..found], common);
+    add_rows(list, count, found, common);
     found
 }
 
 // Lists the maximal sets of the rows as they are found, and gives their number: at most 1,025.
-pub(crate) fn list_parts(neighbours: &[u64], rows: u64, list: &mut [u64]) -> usize
+pub(crate) fn list_parts(
+    neighbours: &[u64; MAX_ROWS],
+    rows: u64,
+    list: &mut [u64; MAX_SETS + 1],
+) -> usize
     requires { ⌜ RowsOf maxUnionRows (now neighbours) rows × (suc maxSets ≤ length (now list)) ⌝ }
-    ensures { λ r. ⌜ (r ≤ suc maxSets) × Listed (rowOf (now (neighbours .entry))) (suc maxSets) (length (now (neighbours .entry))) rows
+    ensures { λ r. ⌜ (r ≤ suc maxSets) × (length (now (list .exit)) ≡ length (now (list .entry))) × Listed (rowOf (now (neighbours .entry))) (suc maxSets) maxUnionRows rows
         [] (take r (now (list .exit))) ⌝ }
 {
     let mut rest = rows;

@@ -15,8 +15,11 @@ ghost use Rattle.cliques.specs.Graph.{near};
 ghost use Rattle.cliques.specs.Maximal.{Clique};
 ghost use Rattle.cliques.specs.Search.{rowOf, taken, MayTake, Ran, Ready, Asked, Free, GrowsBack, Told};
 
+// As many rows as a graph may have.
+pub const MAX_ROWS: usize = 64;
+
 // As many sets as are listed; one more is found, and ends the search.
-pub(crate) const MAX_SETS: usize = 1024;
+pub const MAX_SETS: usize = 1024;
 
 // The rows of `start` that complement each row of the set.
 fn free_rows(neighbours: &[u64], set: u64, start: u64) -> u64
@@ -34,7 +37,7 @@ fn free_rows(neighbours: &[u64], set: u64, start: u64) -> u64
 
 // Is what the free rows give, each taken in ascending order where it complements those before it, of the set alone?
 fn grows_back(neighbours: &[u64], free: u64, set: u64) -> bool
-    requires { ⌜ (length (now neighbours) ≤ maxUnionRows) × Inside free (length (now neighbours)) × Clique (near (now neighbours)) set ⌝ }
+    requires { ⌜ Inside free (length (now neighbours)) × Inside free maxUnionRows × Clique (near (now neighbours)) set ⌝ }
     ensures { λ r. ⌜ GrowsBack (near (now (neighbours .entry))) free set r ⌝ }
 {
     let mut rest = free;
@@ -72,16 +75,16 @@ fn take_row(neighbours: &[u64], set: u64, i: usize) -> u64
 // The set is maximal among the decided rows, and `undecided` rows, the rest, are to be decided. Takes the first of them or leaves it, and lists
 // each maximal set of all these rows that grows out of the set, as it finds them. Gives the grown count: it stays from the 1,025th set on.
 pub(crate) fn search(
-    neighbours: &[u64],
+    neighbours: &[u64; MAX_ROWS],
     decided: u64,
     rest: u64,
     undecided: usize,
     set: u64,
-    list: &mut [u64],
+    list: &mut [u64; MAX_SETS + 1],
     count: usize,
 ) -> usize
     requires { ⌜ Ready maxUnionRows (suc maxSets) (now neighbours) decided rest undecided set (now list) count ⌝ }
-    ensures { λ r. ⌜ (r ≤ suc maxSets) × Ran (rowOf (now (neighbours .entry))) (suc maxSets) undecided decided rest set
+    ensures { λ r. ⌜ (r ≤ suc maxSets) × (length (now (list .exit)) ≡ length (now (list .entry))) × Ran (rowOf (now (neighbours .entry))) (suc maxSets) undecided decided rest set
         (take count (now (list .entry))) (take r (now (list .exit))) ⌝ }
 {
     if MAX_SETS < count {

@@ -1,9 +1,8 @@
 -- `find_sets` lists all maximal sets: they are found part by part, and then put in order.
-use mathlib.Core.Path.{_≡_, refl, sym}
+use mathlib.Core.Path.{_≡_, refl}
 use Prim.Native.Nat.{_<_, _≤_}
 use native.Mathlib.Omega.{arith}
 use lib.ListN.{length}
-use lib.Seq.{length-take-le}
 use borrow.Author.Needs.{needs}
 use Rattle.definitions.specs.Limits.{maxUnionRows}
 use Rattle.bitsets.specs.Bits.{rowsBelow}
@@ -14,10 +13,10 @@ use Rattle.cliques.proofs.find_sets.Tie as tie
 -- where the rows are a set
 module _ (w : tie.After-with-row) where
   abbrev start : tie.Start
-  start = w .before .before .before .before .before .before
+  start = w .before .before .before
 
   some : 0 < start .args .n
-  some = omega (arith, w .before .before .before .if1 .left)
+  some = omega (arith, w .before .before .if1 .left)
 
   all : w .with-row .result ≡ rowsBelow (start .args .n)
   all = all-rows (start .args .n) _ (w .before .below .result) (w .with-row .result) some refl (w .before .below .ensures) (w .with-row .ensures)
@@ -28,18 +27,15 @@ module _ (k : tie.After-list-parts) where
   rows = k .before .before
 
   room : k .list-parts .result ≤ length (k .list-parts .last .1 .1 .0)
-  room = omega (arith, start rows .pre .2, k .list-parts .kept .1 .1 .0, k .list-parts .ensures .0)
+  room = omega (arith, k .list-parts .ensures .0, k .list-parts .ensures .1, start rows .pre .2)
 
 returns : tie.Need-returns
 returns c =
-    let s = c .before .before .before .args in
+    let s = c .before .args in
     none-found (s .neighbours .now) (s .n) (s .list .now) (c .if1 .taken)
 
 sub-last : tie.Need-sub-last
 sub-last c = search needs
-
-slice-aggregate-list-parts : tie.Need-slice-aggregate-list-parts
-slice-aggregate-list-parts c = let q = c .before .before .before .before in sym (length-take-le (q .args .n) (q .args .neighbours .now) (q .pre .0 .rows))
 
 below-requires : tie.Need-below-requires
 below-requires c κs = search needs
@@ -51,34 +47,27 @@ list-parts-requires : tie.Need-list-parts-requires
 list-parts-requires c κs =
     let w = c .before in
     let q = start w in
-    (start-rows (q .args .neighbours .now) (q .args .n) (q .pre .0) maxUnionRows (w .with-row .result) (q .pre .1) (all w), search needs)
-
-same-length : tie.Need-same-length
-same-length c = search needs
+    (start-rows (q .args .neighbours .now) (q .args .n) (q .pre .0) maxUnionRows (w .with-row .result) (q .pre .1) (all w), q .pre .2)
 
 returns-2 : tie.Need-returns-2
 returns-2 c =
-    let k = c .before .before .before in
+    let k = c .before in
     let w = rows k in
     let q = start w in
-    many-found (q .args .neighbours .now) (q .args .n) (q .pre .0) (k .list-parts .last .1 .1 .0) (k .list-parts .result) (w .with-row .result) (some w) (room k)
-    (k .list-parts .ensures .0) (all w) (k .list-parts .ensures .1) (c .if2 .taken)
+    many-found (q .args .neighbours .now) (q .args .n) (q .pre .0) maxUnionRows (q .pre .1) (k .list-parts .last .1 .1 .0) (k .list-parts .result) (w .with-row .result) (some w) (room k)
+    (k .list-parts .ensures .0) (all w) (k .list-parts .ensures .2) (c .if2 .taken)
 
 order-sets-requires : tie.Need-order-sets-requires
-order-sets-requires c κs = let k = c .before .before .before .before in (omega (arith, c .before .if2 .left), room k)
-
-same-length-2 : tie.Need-same-length-2
-same-length-2 c = search needs
+order-sets-requires c κs = let k = c .before .before in (omega (arith, c .before .if2 .left), room k)
 
 returns-3 : tie.Need-returns-3
 returns-3 c =
-    let o = c .before .before in
-    let k = o .before .before .before .before .before in
+    let k = c .before .before .before in
     let w = rows k in
     let q = start w in
-    all-found (q .args .neighbours .now) (q .args .n) (q .pre .0) (k .list-parts .last .1 .1 .0) (k .list-parts .result) (w .with-row .result) (some w) (room k)
-    (k .list-parts .ensures .0) (all w) (k .list-parts .ensures .1) (omega (arith, o .before .before .if2 .left)) (o .order-sets .last .0) (o .order-sets .result)
-    (omega (arith, room k, o .order-sets .kept .0, o .order-sets .ensures .0)) (o .order-sets .ensures .1)
+    all-found (q .args .neighbours .now) (q .args .n) (q .pre .0) maxUnionRows (q .pre .1) (k .list-parts .last .1 .1 .0) (k .list-parts .result) (w .with-row .result) (some w) (room k)
+    (k .list-parts .ensures .0) (all w) (k .list-parts .ensures .2) (omega (arith, c .before .before .if2 .left)) (c .order-sets .last .0) (c .order-sets .result)
+    (omega (arith, room k, c .order-sets .kept .0, c .order-sets .ensures .0)) (c .order-sets .ensures .1)
 
 pub find-sets-spec : {M : Type 1} → statement M
 find-sets-spec =
@@ -86,12 +75,9 @@ find-sets-spec =
     (tie.spec
     returns
     sub-last
-    slice-aggregate-list-parts
     below-requires
     with-row-requires
     list-parts-requires
-    same-length
     returns-2
     order-sets-requires
-    same-length-2
     returns-3)

@@ -33,7 +33,7 @@ mul-with-row c =
     let b = k .before .before in
     let q = b .before .before in
     let s = q .args in
-    omega (arith, row-below (s .part) (b .loop .rest) (k .lowest-row .result) (length (s .neighbours .now)) (b .loop .inv .0) (q .pre .inside) (omega arith) (k .lowest-row .ensures))
+    omega (arith, row-below (s .part) (b .loop .rest) (k .lowest-row .result) (q .pre .n) (b .loop .inv .0) (q .pre .inside) (omega arith) (k .lowest-row .ensures), q .pre .graph .rows)
 
 shared-slice-read-with-row : tie.Need-shared-slice-read-with-row Inv-loop μ-loop
 shared-slice-read-with-row c =
@@ -41,7 +41,7 @@ shared-slice-read-with-row c =
     let b = k .before .before in
     let q = b .before .before in
     let s = q .args in
-    row-below (s .part) (b .loop .rest) (k .lowest-row .result) (length (s .neighbours .now)) (b .loop .inv .0) (q .pre .inside) (omega arith) (k .lowest-row .ensures)
+    omega (arith, row-below (s .part) (b .loop .rest) (k .lowest-row .result) (q .pre .n) (b .loop .inv .0) (q .pre .inside) (omega arith) (k .lowest-row .ensures), q .pre .graph .rows)
 
 with-row-requires : tie.Need-with-row-requires Inv-loop μ-loop
 with-row-requires c κs =
@@ -49,7 +49,7 @@ with-row-requires c κs =
     let b = k .before .before in
     let q = b .before .before in
     let s = q .args in
-    omega (arith, q .pre .bits, row-below (s .part) (b .loop .rest) (k .lowest-row .result) (length (s .neighbours .now)) (b .loop .inv .0) (q .pre .inside) (omega arith) (k .lowest-row .ensures))
+    omega (arith, q .pre .bits, row-below (s .part) (b .loop .rest) (k .lowest-row .result) (q .pre .n) (b .loop .inv .0) (q .pre .inside) (omega arith) (k .lowest-row .ensures))
 
 is-sub-requires : tie.Need-is-sub-requires Inv-loop μ-loop
 is-sub-requires c κs = search needs
@@ -60,7 +60,7 @@ with-row-requires-2 c κs =
     let b = k .before .before in
     let q = b .before .before in
     let s = q .args in
-    omega (arith, q .pre .bits, row-below (s .part) (b .loop .rest) (k .lowest-row .result) (length (s .neighbours .now)) (b .loop .inv .0) (q .pre .inside) (omega arith) (k .lowest-row .ensures))
+    omega (arith, q .pre .bits, row-below (s .part) (b .loop .rest) (k .lowest-row .result) (q .pre .n) (b .loop .inv .0) (q .pre .inside) (omega arith) (k .lowest-row .ensures))
 
 loop-less : tie.Need-loop-less Inv-loop μ-loop
 loop-less c =

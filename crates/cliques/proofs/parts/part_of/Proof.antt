@@ -21,7 +21,7 @@ lowest-row-requires c κs = search needs
 with-row-requires : tie.Need-with-row-requires Inv-loop μ-loop
 with-row-requires c κs =
     let q = c .before .before in
-    omega (arith, lowest-inside (q .args .rows) (c .lowest-row .result) (length (q .args .neighbours .now)) (q .pre .1) (c .lowest-row .ensures) (q .pre .0 .inside), q .pre .0 .bits)
+    omega (arith, lowest-inside (q .args .rows) (c .lowest-row .result) (q .pre .0 .n) (q .pre .1) (c .lowest-row .ensures) (q .pre .0 .inside), q .pre .0 .bits, q .pre .0 .graph .rows)
 
 loop-holds : tie.Need-loop-holds Inv-loop μ-loop
 loop-holds c =
@@ -37,7 +37,7 @@ with-row-requires-2 c κs =
     let b = c .before .before in
     let q = b .before .before .before .before in
     let s = q .args in
-    omega (arith, row-below (s .rows) (b .loop .ahead) (c .lowest-row2 .result) (length (s .neighbours .now)) (b .loop .inv .among) (q .pre .0 .inside) (omega arith) (c .lowest-row2 .ensures), q .pre .0 .bits)
+    omega (arith, row-below (s .rows) (b .loop .ahead) (c .lowest-row2 .result) (q .pre .0 .n) (b .loop .inv .among) (q .pre .0 .inside) (omega arith) (c .lowest-row2 .ensures), q .pre .0 .bits, q .pre .0 .graph .rows)
 
 mul-unite : tie.Need-mul-unite Inv-loop μ-loop
 mul-unite c =
@@ -45,7 +45,7 @@ mul-unite c =
     let b = k .before .before in
     let q = b .before .before .before .before in
     let s = q .args in
-    omega (arith, row-below (s .rows) (b .loop .ahead) (k .lowest-row2 .result) (length (s .neighbours .now)) (b .loop .inv .among) (q .pre .0 .inside) (omega arith) (k .lowest-row2 .ensures))
+    omega (arith, row-below (s .rows) (b .loop .ahead) (k .lowest-row2 .result) (q .pre .0 .n) (b .loop .inv .among) (q .pre .0 .inside) (omega arith) (k .lowest-row2 .ensures), q .pre .0 .graph .rows)
 
 shared-slice-read-unite : tie.Need-shared-slice-read-unite Inv-loop μ-loop
 shared-slice-read-unite c =
@@ -53,7 +53,7 @@ shared-slice-read-unite c =
     let b = k .before .before in
     let q = b .before .before .before .before in
     let s = q .args in
-    row-below (s .rows) (b .loop .ahead) (k .lowest-row2 .result) (length (s .neighbours .now)) (b .loop .inv .among) (q .pre .0 .inside) (omega arith) (k .lowest-row2 .ensures)
+    omega (arith, row-below (s .rows) (b .loop .ahead) (k .lowest-row2 .result) (q .pre .0 .n) (b .loop .inv .among) (q .pre .0 .inside) (omega arith) (k .lowest-row2 .ensures), q .pre .0 .graph .rows)
 
 unite-requires : tie.Need-unite-requires Inv-loop μ-loop
 unite-requires c κs = search needs

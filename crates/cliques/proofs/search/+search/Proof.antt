@@ -8,7 +8,7 @@ use borrow.Fn.PlainCycle.{Measures, is, falls, and}
 use Rattle.definitions.specs.Limits.{maxSets, maxUnionRows}
 use Rattle.cliques.specs.Search.{rowOf}
 use Rattle.cliques.proofs.Run.{split-some, split-row}
-use Rattle.cliques.proofs.Turns.{Turn, run-stops, run-lists, row-below, row-bit, asked, ready-joins, ready-leaves, ready-takes, run-joins, run-leaves, run-takes}
+use Rattle.cliques.proofs.Turns.{Turn, run-stops, run-lists, row-within, row-bit, asked, ready-joins, ready-leaves, ready-takes, run-joins, run-leaves, run-takes}
 use Rattle.cliques.proofs.search.search.Reads as search′
 use Rattle.cliques.proofs.search.search.Kinds as search-kinds
 use Rattle.cliques.proofs.search.+search.Lts-search as lts
@@ -55,7 +55,7 @@ module _ (t : ℕ) where
   -- where a row is to be decided
   module _ (w : lts.After-with-row (claims t) (at t) search′.Post) where
     abbrev start : lts.Start (claims t) (at t) search′.Post
-    start = w .before .before .before .before .before .before .before
+    start = w .before .before .before .before .before
 
     undecided-left : start .args .undecided ≡ 0 → ⊥
     undecided-left = w .before .before .before .if2 .left
@@ -74,56 +74,50 @@ module _ (t : ℕ) where
 
   returns : lts.Need-returns (claims t) (at t) search′.Post
   returns c =
-      let q = c .before .before .before in
+      let q = c .before in
       let s = q .args in
       let r = q .pre .1 in (
         search needs,
+        refl,
         run-stops (rowOf (s .neighbours .now)) (suc maxSets) (s .decided) (s .rest) (s .set) (s .count) (s .list .now)
             (omega (arith, r .room, r .few)) (s .undecided) (omega arith),
       )
 
   append-requires : lts.Need-append-requires (claims t) (at t) search′.Post
   append-requires c κs =
-      let q = c .before .before .before .before .before in
+      let q = c .before .before .before in
       omega (arith, q .pre .1 .room, c .before .before .if1 .left)
-
-  same-length : lts.Need-same-length (claims t) (at t) search′.Post
-  same-length c = search needs
 
   returns-2 : lts.Need-returns-2 (claims t) (at t) search′.Post
   returns-2 c =
-      let a = c .before .before in
-      let o = a .before .before in
-      let q = o .before .before .before .before in
+      let o = c .before .before in
+      let q = o .before .before in
       let s = q .args in
       let r = q .pre .1 in
       let few : s .count < suc maxSets = omega (arith, o .before .if1 .left) in (
-        omega (arith, a .append .ensures .0),
+        omega (arith, c .append .ensures .0),
+        c .append .kept .0,
         run-lists (rowOf (s .neighbours .now)) (suc maxSets) (s .decided) (s .rest) (s .set) (s .count) (s .list .now)
-            (omega (arith, r .room, r .few)) (s .undecided) (o .if2 .taken) few _ (a .append .ensures .1),
+            (omega (arith, r .room, r .few)) (s .undecided) (o .if2 .taken) few _ (c .append .ensures .1),
       )
 
   lowest-row-requires : lts.Need-lowest-row-requires (claims t) (at t) search′.Post
-  lowest-row-requires c κs =
-      let q = c .before .before .before .before in
-      split-some (q .pre .1 .split) (c .if2 .left)
+  lowest-row-requires c κs = split-some (c .before .before .pre .1 .split) (c .if2 .left)
 
   without-lowest-requires : lts.Need-without-lowest-requires (claims t) (at t) search′.Post
-  without-lowest-requires c κs =
-      let q = c .before .before .before .before .before in
-      split-some (q .pre .1 .split) (c .before .if2 .left)
+  without-lowest-requires c κs = split-some (c .before .before .before .pre .1 .split) (c .before .if2 .left)
 
   with-row-requires : lts.Need-with-row-requires (claims t) (at t) search′.Post
   with-row-requires c κs =
-      let q = c .before .before .before .before .before .before in
+      let q = c .before .before .before .before in
       let l = c .before .lowest-row in
-      omega (arith, split-row (q .pre .1 .split) (c .before .before .if2 .left) (l .result) (l .ensures), q .pre .1 .bits)
+      omega (arith, split-row (q .pre .1 .split) (c .before .before .if2 .left) (l .result) (l .ensures), q .pre .1 .split .fits)
 
   mul-is-sub : lts.Need-mul-is-sub (claims t) (at t) search′.Post
-  mul-is-sub c = omega (arith, row-below (turn c))
+  mul-is-sub c = omega (arith, row-bit (turn c))
 
-  shared-slice-read-is-sub : lts.Need-shared-slice-read-is-sub (claims t) (at t) search′.Post
-  shared-slice-read-is-sub c = row-below (turn (c .before))
+  element-copy-out-is-sub : lts.Need-element-copy-out-is-sub (claims t) (at t) search′.Post
+  element-copy-out-is-sub c = row-bit (turn c)
 
   is-sub-requires : lts.Need-is-sub-requires (claims t) (at t) search′.Post
   is-sub-requires c κs = search needs
@@ -140,29 +134,25 @@ module _ (t : ℕ) where
       let i = g .before .before in
       let w = i .before .before in
       let q = start w in (
-        omega (arith, q .pre .0, (undecided-left w)),
+        omega (arith, q .pre .0, undecided-left w),
         ready-joins (turn w) (g .with-row2 .result) (q .args .list .now) (q .args .count) refl (q .pre .1 .few)
             (sym (i .is-sub .ensures) ∙ g .before .if3 .taken) (g .with-row2 .ensures),
       )
 
-  same-length-2 : lts.Need-same-length-2 (claims t) (at t) search′.Post
-  same-length-2 c = search needs
-
   returns-3 : lts.Need-returns-3 (claims t) (at t) search′.Post
   returns-3 c =
-      let k = c .before .before in
-      let g = k .before .before in
+      let g = c .before .before in
       let i = g .before .before in
       let w = i .before .before in
-      (k .search .ensures .0, run-joins (turn w) _ (sym (i .is-sub .ensures) ∙ g .before .if3 .taken) (g .with-row2 .result) (g .with-row2 .ensures) (k .search .ensures .1))
+      (c .search .ensures .0, c .search .ensures .1, run-joins (turn w) _ (sym (i .is-sub .ensures) ∙ g .before .if3 .taken) (g .with-row2 .result) (g .with-row2 .ensures) (c .search .ensures .2))
 
   may-take-requires : lts.Need-may-take-requires (claims t) (at t) search′.Post
-  may-take-requires c κs = asked (turn (c .before .before .before))
+  may-take-requires c κs = asked (turn (c .before .before .before .before))
 
   take-row-requires : lts.Need-take-row-requires (claims t) (at t) search′.Post
   take-row-requires c κs =
-      let w = c .before .before .before .before .before
-      in (row-below (turn w), row-bit (turn w))
+      let w = c .before .before .before .before .before .before .before in
+      (row-within (turn w), row-bit (turn w))
 
   sub-search-2 : lts.Need-sub-search-2 (claims t) (at t) search′.Post
   sub-search-2 c = search needs
@@ -170,13 +160,15 @@ module _ (t : ℕ) where
   search-requires-2 : lts.Need-search-requires-2 (claims t) (at t) search′.Post
   search-requires-2 c κs =
       let g = c .before in
-      let m = g .before .before in
-      let i = m .before .before in
+      let f = g .before .before in
+      let m = f .before in
+      let e = m .before .before in
+      let i = e .before in
       let w = i .before .before in
       let q = start w in (
-        omega (arith, q .pre .0, (undecided-left w)),
+        omega (arith, q .pre .0, undecided-left w),
         ready-takes (turn w) (g .take-row .result) (q .args .list .now) (q .args .count) refl (q .pre .1 .few)
-            (sym (i .is-sub .ensures) ∙ m .before .if3 .left) (m .may-take .ensures .yes (g .before .if4 .taken)) (g .take-row .ensures),
+            (sym (i .is-sub .ensures) ∙ e .if3 .left) (m .may-take .ensures .yes (f .if4 .taken)) (g .take-row .ensures),
       )
 
   sub-search-3 : lts.Need-sub-search-3 (claims t) (at t) search′.Post
@@ -184,30 +176,30 @@ module _ (t : ℕ) where
 
   search-requires-3 : lts.Need-search-requires-3 (claims t) (at t) search′.Post
   search-requires-3 c κs =
-      let k = c .before .before .before in
-      let m = k .before .before .before .before in
-      let i = m .before .before in
+      let k = c .before in
+      let m = k .before .before .before .before .before in
+      let e = m .before .before in
+      let i = e .before in
       let w = i .before .before in
       let q = start w in (
-        omega (arith, q .pre .0, (undecided-left w)),
+        omega (arith, q .pre .0, undecided-left w),
         ready-leaves (turn w) (q .args .set) (k .search2 .last .1 .1 .1 .1 .1 .0) (k .search2 .result)
-            (k .search2 .kept .1 .1 .1 .1 .1 .0) (k .search2 .ensures .0) (sym (i .is-sub .ensures) ∙ m .before .if3 .left) refl,
+            (k .search2 .ensures .1) (k .search2 .ensures .0) (sym (i .is-sub .ensures) ∙ e .if3 .left) refl,
       )
-
-  same-length-3 : lts.Need-same-length-3 (claims t) (at t) search′.Post
-  same-length-3 c = search needs
 
   returns-4 : lts.Need-returns-4 (claims t) (at t) search′.Post
   returns-4 c =
-      let f = c .before .before in
-      let k = f .before .before .before .before in
+      let k = c .before .before in
       let g = k .before .before in
-      let m = g .before .before in
-      let i = m .before .before in
+      let f = g .before .before in
+      let m = f .before in
+      let e = m .before .before in
+      let i = e .before in
       let w = i .before .before in (
-        f .search3 .ensures .0,
-        run-takes (turn w) _ (sym (i .is-sub .ensures) ∙ m .before .if3 .left) (m .may-take .ensures .yes (g .before .if4 .taken))
-            (g .take-row .result) (g .take-row .ensures) _ (k .search2 .ensures .1) (f .search3 .ensures .1),
+        c .search3 .ensures .0,
+        c .search3 .ensures .1 ∙ k .search2 .ensures .1,
+        run-takes (turn w) _ (sym (i .is-sub .ensures) ∙ e .if3 .left) (m .may-take .ensures .yes (f .if4 .taken))
+            (g .take-row .result) (g .take-row .ensures) _ (k .search2 .ensures .2) (c .search3 .ensures .2),
       )
 
   sub-search-4 : lts.Need-sub-search-4 (claims t) (at t) search′.Post
@@ -215,25 +207,25 @@ module _ (t : ℕ) where
 
   search-requires-4 : lts.Need-search-requires-4 (claims t) (at t) search′.Post
   search-requires-4 c κs =
-      let m = c .before .before in
-      let i = m .before .before in
+      let f = c .before in
+      let m = f .before in
+      let e = m .before .before in
+      let i = e .before in
       let w = i .before .before in
       let q = start w in (
-        omega (arith, q .pre .0, (undecided-left w)),
+        omega (arith, q .pre .0, undecided-left w),
         ready-leaves (turn w) (q .args .set) (q .args .list .now) (q .args .count) refl (q .pre .1 .few)
-            (sym (i .is-sub .ensures) ∙ m .before .if3 .left) refl,
+            (sym (i .is-sub .ensures) ∙ e .if3 .left) refl,
       )
-
-  same-length-4 : lts.Need-same-length-4 (claims t) (at t) search′.Post
-  same-length-4 c = search needs
 
   returns-5 : lts.Need-returns-5 (claims t) (at t) search′.Post
   returns-5 c =
       let f = c .before .before in
-      let m = f .before .before .before in
-      let i = m .before .before in
+      let m = f .before in
+      let e = m .before .before in
+      let i = e .before in
       let w = i .before .before in
-      (f .search4 .ensures .0, run-leaves (turn w) _ (sym (i .is-sub .ensures) ∙ m .before .if3 .left) (m .may-take .ensures .no (f .before .before .if4 .left)) (f .search4 .ensures .1))
+      (c .search4 .ensures .0, c .search4 .ensures .1, run-leaves (turn w) _ (sym (i .is-sub .ensures) ∙ e .if3 .left) (m .may-take .ensures .no (f .if4 .left)) (c .search4 .ensures .2))
 
 pub +search-spec : {M : Type 1} → statement M
 +search-spec = close μ-search λ t. lts.spec (claims t)
@@ -241,18 +233,16 @@ pub +search-spec : {M : Type 1} → statement M
     search′.Post
     (returns t)
     (append-requires t)
-    (same-length t)
     (returns-2 t)
     (lowest-row-requires t)
     (without-lowest-requires t)
     (with-row-requires t)
     (mul-is-sub t)
-    (shared-slice-read-is-sub t)
+    (element-copy-out-is-sub t)
     (is-sub-requires t)
     (with-row-requires-2 t)
     (sub-search t)
     (search-requires t)
-    (same-length-2 t)
     (returns-3 t)
     (may-take-requires t)
     (take-row-requires t)
@@ -260,9 +250,7 @@ pub +search-spec : {M : Type 1} → statement M
     (search-requires-2 t)
     (sub-search-3 t)
     (search-requires-3 t)
-    (same-length-3 t)
     (returns-4 t)
     (sub-search-4 t)
     (search-requires-4 t)
-    (same-length-4 t)
     (returns-5 t)

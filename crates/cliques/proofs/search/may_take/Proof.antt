@@ -1,7 +1,7 @@
 -- `may_take` tells whether a row may be taken, by the two walks: a law for each return (Taking).
 use native.Mathlib.Omega.{arith}
 use borrow.Author.Needs.{needs}
-use Rattle.cliques.proofs.Taking.{kept-inside, free-inside, told-blocked, told-walked}
+use Rattle.cliques.proofs.Taking.{kept-inside, free-inside, free-bits, told-blocked, told-walked}
 use Rattle.cliques.proofs.search.may_take.Statement.{statement}
 use Rattle.cliques.proofs.search.may_take.Tie as tie
 
@@ -33,8 +33,11 @@ grows-back-requires : tie.Need-grows-back-requires
 grows-back-requires c κs =
     let f = c .before .before in
     let k = f .before in
-    let q = k .before .before .before in
-    (q .pre .bits, free-inside (q .pre) (f .free-rows .result) (k .meet .result) (k .meet .ensures) (f .free-rows .ensures), q .pre .maximal .clique)
+    let q = k .before .before .before in (
+      free-inside (q .pre) (f .free-rows .result) (k .meet .result) (k .meet .ensures) (f .free-rows .ensures),
+      free-bits (q .pre) (f .free-rows .result) (k .meet .result) (k .meet .ensures) (f .free-rows .ensures),
+      q .pre .maximal .clique,
+    )
 
 returns-2 : tie.Need-returns-2
 returns-2 c =
