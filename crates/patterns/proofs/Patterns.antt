@@ -1,5 +1,4 @@
--- Laws of filled cells and patterns: a pattern's bound, its next bit, that its ones are the filled cells, and the walks that count and that go
--- over rows. Assumes nothing.
+-- Laws of filled cells and patterns: a pattern's bound, its next bit, that its ones are the filled cells, and the walk that counts. Assumes nothing.
 use mathlib.Core.Path.{_≡_, refl, sym, _∙_, ap, ap₂, subst}
 use mathlib.Core.Bool.{cond}
 use mathlib.Core.List.{List, [], _∷_, map, map-append, flatten}
@@ -69,12 +68,3 @@ unfolding filled
 count-ends c n total w h inv =
     let none : filled (drop (n * c) (take (n * c) w)) ≡ 0 = ap filled (drop-of-length-le (take (n * c) w) {i = n * c} (omega (arith, length-take-le (n * c) w h))) in
     omega (arith, none, inv, ap filled (words-rows c n w))
-
--- ---- a walk over n rows of c words, at the row i
-
-module _ (c n i at : ℕ) (w : List ℕ) (more : i < n) (here : at ≡ i * c) where
-  pub row-ends : n * c ≤ length w → at + c ≤ length w
-  row-ends h = omega (arith, row-fits c n i more)
-
-  pub next-row : at + c ≡ (i + 1) * c
-  next-row = omega (arith, add-mul i 1 c, one-mul c)

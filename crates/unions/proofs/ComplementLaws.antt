@@ -19,7 +19,7 @@ use Rattle.lists.proofs.Flat.{rows-length}
 use Rattle.rows.specs.Numbers.{rowsAt, Below, Ordered}
 use Rattle.rows.proofs.Numbers.{below-fit}
 use Rattle.cliques.specs.Graph.{Graph, AllSets}
-use Rattle.fusing.specs.Columns.{ColumnsOf}
+use Rattle.patterns.specs.Columns.{ColumnsOf}
 use Rattle.fusing.specs.Graph.{GraphOf}
 use Rattle.fusing.specs.Records.{placesIn, listOf}
 use Rattle.fusing.proofs.Fused.{sets-many, sets-few, sets-listed, ordered-fused, places-known, places-below, list-written}

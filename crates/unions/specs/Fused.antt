@@ -12,7 +12,7 @@ use Rattle.definitions.specs.SetList.{bits, fusedPlace, setList}
 use Rattle.definitions.specs.Answer.{Outcome, done, unless, no, afterwards}
 use Rattle.definitions.specs.Calls.{tableRoom}
 use Rattle.rows.specs.Numbers.{rowsAt, Fit}
-use Rattle.fusing.specs.Columns.{ColumnsOf}
+use Rattle.patterns.specs.Columns.{ColumnsOf}
 
 -- r counts the sets where there are at most 1,024 of them, and the list begins with them
 pub record SetsOf (rows : List (List ℕ)) (list : List ℕ) (r : ℕ) : Type 0 where

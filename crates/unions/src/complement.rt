@@ -10,7 +10,7 @@ ghost use Rattle.definitions.specs.SetList.{bits, setList};
 ghost use Rattle.definitions.specs.OuterUnion.{unionRows};
 ghost use Rattle.definitions.specs.Answer.{complementSays, afterwards};
 ghost use Rattle.definitions.specs.Calls.{fusedImage, complementOutcome};
-ghost use Rattle.fusing.specs.Columns.{ColumnsOf};
+ghost use Rattle.patterns.specs.Columns.{ColumnsOf};
 ghost use Rattle.unions.specs.Fused.{SetsOf, ListedTable, FusedOf, Roomy, FusedInto};
 ghost use Rattle.unions.specs.Demand3.{Fused};
 use crate::image::write_table;
@@ -240,7 +240,7 @@ pub fn complement_union(
     let mut t = Table::new(ids, width);
     t.rows = union_rows(a, b, &checks.found.ids, width, &mut t.cells);
     let mut columns = [0u64; 16];
-    fusing::fill_columns(&t.cells, t.rows, width, &mut columns);
+    patterns::fill_columns(&t.cells, t.rows, width, &mut columns);
     let mut list = [0u64; 1025];
     let count = list_sets(&t.cells, t.rows, width, &columns, &mut list);
     if 1024 < count {

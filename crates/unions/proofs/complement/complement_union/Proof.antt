@@ -7,7 +7,7 @@ use lib.Seq.{length-take-le}
 use Rattle.definitions.specs.Limits.{maxSets}
 use Rattle.definitions.specs.OuterUnion.{unionIds, unionRows}
 use Rattle.definitions.specs.Calls.{complementOutcome}
-use Rattle.fusing.proofs.FilledRows.{columns-none}
+use Rattle.patterns.proofs.FilledRows.{columns-none}
 use Rattle.tables.specs.declared.Table.{Table}
 use Rattle.tables.specs.Table.{Holds}
 use Rattle.tables.proofs.UnionLaws.{union-holds}

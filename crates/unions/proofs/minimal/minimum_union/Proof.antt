@@ -89,8 +89,8 @@ result c =
     let o = c .before .minimum-rows .ensures in
     let h = held (made c) in
     let r = h .few-rows in
-    let m = o .0 in
-    minimum-named (found (accepted (made c))) _ _ m (search needs) h (o .1)
+    let m = o .count in
+    minimum-named (found (accepted (made c))) _ _ (search needs) h o
 
 add-words : tie.Need-add-words
 add-words c = let g = result c .few-columns in search needs
@@ -125,7 +125,7 @@ returns-3 c =
     let i = c .before .before .before .before .before .before .before .before .before .before in
     let k = i .before in
     let q = accepted (made k) in
-    let p = k .before .minimum-rows .ensures .2 ∙ ap pairsTried (held (made k) .rows-are) in
+    let p = k .before .minimum-rows .ensures .tried ∙ ap pairsTried (held (made k) .rows-are) in
     done-room (found q) (result k) _ (start q .args .table .now) (omega (arith, i .if2 .left)) _ _ (c .before .before .write-table .ensures)
     _ (ap (λ (x : ℕ). x ∷ []) p)
 

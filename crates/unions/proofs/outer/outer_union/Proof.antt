@@ -88,7 +88,7 @@ result c =
     let h = held (made c) in
     let r = h .few-rows in
     let m = o .0 in
-    outer-named (found (accepted (made c))) _ _ m (search needs) h (o .1)
+    outer-named (found (accepted (made c))) _ _ (search needs) m h (o .1)
 
 add-words : tie.Need-add-words
 add-words c = let g = result c .few-columns in search needs
