@@ -24,8 +24,7 @@ use Rattle.fusing.specs.Graph.{GraphOf}
 use Rattle.fusing.specs.Records.{placesIn, listOf}
 use Rattle.fusing.proofs.Fused.{sets-many, sets-few, sets-listed, ordered-fused, places-known, places-below, list-written}
 use Rattle.tables.specs.declared.Table.{Table}
-use Rattle.tables.specs.Table.{Holds}
-use Rattle.unions.specs.Pair.{Found}
+use Rattle.tables.specs.Table.{Found, Holds}
 use Rattle.unions.specs.Fused.{SetsOf, ListedTable, FusedOf, Roomy, fusedOutcome, FusedInto}
 use Rattle.unions.proofs.Pairs.{refuses, passes, pair-accepted, asked-no, asked-yes}
 use Rattle.unions.proofs.Numbered.{Named, Written, named-words, named-written, named-values}
@@ -134,7 +133,7 @@ module _ {ids cells : List ℕ} {n : ℕ} {columns list joins order places : Lis
 -- ---- the call
 
 -- T in a table in work, and its sets
-module _ {a b all : List ℕ} {columns : ℕ} (f : Found a b all columns) {t : Table} (h : Holds t (unionIds a b) (unionRows a b))
+module _ {a b all : List ℕ} (f : Found a b all) {t : Table} (h : Holds t (unionIds a b) (unionRows a b))
     {list : List ℕ} {count : ℕ} (s : SetsOf (rowsIn (t .columns) (t .rows) (t .cells)) list count) where
   abbrev ids : List ℕ
   ids = take (t .columns) (t .ids)

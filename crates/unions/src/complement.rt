@@ -17,7 +17,6 @@ use crate::image::write_table;
 use crate::questions::check_pair;
 use definitions::ComplementAnswer;
 use tables::Table;
-use tables::first_words;
 use tables::union_rows;
 
 // Lists the maximal sets of the first n rows; how many they are, at most 1,025. Each column's word holds the rows that are filled there.
@@ -25,7 +24,7 @@ pub fn list_sets(cells: &[u32], n: usize, width: usize, columns: &[u64], list: &
     requires { ⌜ (n ≤ maxUnionRows) × (n * width ≤ length (now cells)) × ColumnsOf (rowsIn width n (now cells)) width (now columns) × (suc maxSets ≤ length (now list)) ⌝ }
     ensures { λ r. ⌜ SetsOf (rowsIn width n (now (cells .entry))) (now (list .exit)) r ⌝ }
 {
-    let mut neighbours = [0u64; 64];
+    let mut neighbours = [0u64; Table::MAX_ROWS];
     fusing::fill_neighbours(cells, n, width, columns, &mut neighbours);
     cliques::find_sets(&neighbours, n, list)
 }
@@ -115,7 +114,7 @@ pub fn fuse_few(
     requires { ⌜ ListedTable (now ids) (now cells) n (now columns) (now list) × (length (now list) ≤ 64) ⌝ }
     ensures { λ r. ⌜ FusedInto (now (ids .entry)) (rowsIn (length (now (ids .entry))) n (now (cells .entry))) (complementSays r) (now (table .entry)) (now (table .exit)) (now (sets .entry)) (now (sets .exit)) ⌝ }
 {
-    let mut joined = [0u32; 1024];
+    let mut joined = [0u32; 64 * Table::MAX_COLUMNS];
     let mut order = [0u32; 64];
     let mut places = [0u32; 64];
     write_fused(
@@ -145,7 +144,7 @@ pub fn fuse_some(
     requires { ⌜ ListedTable (now ids) (now cells) n (now columns) (now list) × (length (now list) ≤ 256) ⌝ }
     ensures { λ r. ⌜ FusedInto (now (ids .entry)) (rowsIn (length (now (ids .entry))) n (now (cells .entry))) (complementSays r) (now (table .entry)) (now (table .exit)) (now (sets .entry)) (now (sets .exit)) ⌝ }
 {
-    let mut joined = [0u32; 4096];
+    let mut joined = [0u32; 256 * Table::MAX_COLUMNS];
     let mut order = [0u32; 256];
     let mut places = [0u32; 256];
     write_fused(
@@ -175,7 +174,7 @@ pub fn fuse_many(
     requires { ⌜ ListedTable (now ids) (now cells) n (now columns) (now list) ⌝ }
     ensures { λ r. ⌜ FusedInto (now (ids .entry)) (rowsIn (length (now (ids .entry))) n (now (cells .entry))) (complementSays r) (now (table .entry)) (now (table .exit)) (now (sets .entry)) (now (sets .exit)) ⌝ }
 {
-    let mut joined = [0u32; 16384];
+    let mut joined = [0u32; 1024 * Table::MAX_COLUMNS];
     let mut order = [0u32; 1024];
     let mut places = [0u32; 1024];
     write_fused(
@@ -192,20 +191,23 @@ pub fn fuse_many(
     )
 }
 
-// Lends lists for the joined rows that are as short as the number of sets allows, because to clear long ones takes longer than the rest of
-// a call with few sets.
-pub fn fuse_sets(
-    ids: &[u32],
-    cells: &[u32],
+// Takes the ids in use out of the table's, and lends lists for the joined rows that are as short as the number of sets allows, because to
+// clear long ones takes longer than the rest of a call with few sets.
+pub fn fuse_sets<'a>(
+    all: &'a [u32],
+    width: usize,
+    cells: &'a [u32],
     n: usize,
     columns: &[u64],
     list: &[u64],
     table: &mut [u32],
     sets: &mut [u32],
 ) -> ComplementAnswer
-    requires { ⌜ ListedTable (now ids) (now cells) n (now columns) (now list) ⌝ }
-    ensures { λ r. ⌜ FusedInto (now (ids .entry)) (rowsIn (length (now (ids .entry))) n (now (cells .entry))) (complementSays r) (now (table .entry)) (now (table .exit)) (now (sets .entry)) (now (sets .exit)) ⌝ }
+    requires { ⌜ (width ≤ length (now all)) × ListedTable (take width (now all)) (now cells) n (now columns) (now list) ⌝ }
+    ensures { λ r. ⌜ FusedInto (take width (now (all .entry))) (rowsIn (length (take width (now (all .entry)))) n (now (cells .entry)))
+        (complementSays r) (now (table .entry)) (now (table .exit)) (now (sets .entry)) (now (sets .exit)) ⌝ }
 {
+    let ids = &all[..width];
     if list.len() <= 64 {
         return fuse_few(ids, cells, n, columns, list, table, sets);
     }
@@ -227,7 +229,8 @@ pub fn complement_union(
     ensures lists { λ r. ⌜ now (sets .exit) ≡ afterwards (complementOutcome (now (a .entry)) (now (b .entry)) (length (now (table .entry))) (length (now (sets .entry)))) (setList (unionRows (now (a .entry)) (now (b .entry)))) (now (sets .entry)) ⌝ }
     ensures demand { λ r. ⌜ Fused (complementSays r) (now (a .entry)) (now (b .entry)) (now (table .exit)) (now (sets .exit)) ⌝ }
 {
-    let checks = check_pair(a, b);
+    let mut all = [0u32; 2 * Table::MAX_COLUMNS];
+    let checks = check_pair(a, b, &mut all);
     let number = checks.number;
     if number != 0 {
         return ComplementAnswer::Refused {
@@ -235,20 +238,29 @@ pub fn complement_union(
             table: checks.table,
         };
     }
-    let width = checks.found.count;
-    let ids = first_words(&checks.found.ids, width);
-    let mut t = Table::new(ids, width);
-    t.rows = union_rows(a, b, &checks.found.ids, width, &mut t.cells);
-    let mut columns = [0u64; 16];
-    patterns::fill_columns(&t.cells, t.rows, width, &mut columns);
+    let width = checks.columns;
+    let found = &all[..width];
+    let mut t = Table::new(found);
+    t.rows = union_rows(a, b, found, &mut t.cells);
+    let mut columns = [0u64; Table::MAX_COLUMNS];
+    patterns::fill_columns(&t.cells, t.rows, t.columns, &mut columns);
     let mut list = [0u64; 1025];
-    let count = list_sets(&t.cells, t.rows, width, &columns, &mut list);
+    let count = list_sets(&t.cells, t.rows, t.columns, &columns, &mut list);
     if 1024 < count {
         return ComplementAnswer::Refused {
             number: 9,
             table: 2,
         };
     }
-    let all = &list[..count];
-    fuse_sets(&ids[..width], &t.cells, t.rows, &columns, all, table, sets)
+    let listed = &list[..count];
+    fuse_sets(
+        &t.ids,
+        t.columns,
+        &t.cells,
+        t.rows,
+        &columns,
+        listed,
+        table,
+        sets,
+    )
 }
