@@ -72,8 +72,6 @@ pub(crate) fn try_row(
         }
         rest = rest & (rest - 1);
     }
-    Tried {
-        subsumed,
-        pairs: others(looked, k),
-    }
+    let pairs = others(looked, k);
+    Tried { subsumed, pairs }
 }

@@ -11,7 +11,7 @@ ghost use Rattle.definitions.specs.OuterUnion.{unionRows};
 ghost use Rattle.definitions.specs.Answer.{complementSays, afterwards};
 ghost use Rattle.definitions.specs.Calls.{fusedImage, complementOutcome};
 ghost use Rattle.patterns.specs.Columns.{ColumnsOf};
-ghost use Rattle.unions.specs.Fused.{SetsOf, ListedTable, FusedOf, Roomy, FusedInto};
+ghost use Rattle.unions.specs.Fused.{SetsOf, WorkTable, ListedTable, FusedOf, Roomy, FusedInto, FusedUnion};
 ghost use Rattle.unions.specs.Demand3.{Fused};
 use crate::image::write_table;
 use crate::questions::check_pair;
@@ -191,23 +191,20 @@ pub fn fuse_many(
     )
 }
 
-// Takes the ids in use out of the table's, and lends lists for the joined rows that are as short as the number of sets allows, because to
-// clear long ones takes longer than the rest of a call with few sets.
-pub fn fuse_sets<'a>(
-    all: &'a [u32],
-    width: usize,
-    cells: &'a [u32],
+// Lends lists for the joined rows that are as short as the number of sets allows, because to clear long ones takes longer than the rest of
+// a call with few sets.
+pub fn fuse_sets(
+    ids: &[u32],
+    cells: &[u32],
     n: usize,
     columns: &[u64],
     list: &[u64],
     table: &mut [u32],
     sets: &mut [u32],
 ) -> ComplementAnswer
-    requires { ⌜ (width ≤ length (now all)) × ListedTable (take width (now all)) (now cells) n (now columns) (now list) ⌝ }
-    ensures { λ r. ⌜ FusedInto (take width (now (all .entry))) (rowsIn (length (take width (now (all .entry)))) n (now (cells .entry)))
-        (complementSays r) (now (table .entry)) (now (table .exit)) (now (sets .entry)) (now (sets .exit)) ⌝ }
+    requires { ⌜ ListedTable (now ids) (now cells) n (now columns) (now list) ⌝ }
+    ensures { λ r. ⌜ FusedInto (now (ids .entry)) (rowsIn (length (now (ids .entry))) n (now (cells .entry))) (complementSays r) (now (table .entry)) (now (table .exit)) (now (sets .entry)) (now (sets .exit)) ⌝ }
 {
-    let ids = &all[..width];
     if list.len() <= 64 {
         return fuse_few(ids, cells, n, columns, list, table, sets);
     }
@@ -215,6 +212,33 @@ pub fn fuse_sets<'a>(
         return fuse_some(ids, cells, n, columns, list, table, sets);
     }
     fuse_many(ids, cells, n, columns, list, table, sets)
+}
+
+// The questions from 9 on, and what they leave to write, for the first n rows of a table in work and the first ids, a column each.
+pub fn fuse_table<'a>(
+    ids: &'a [u32],
+    width: usize,
+    cells: &'a [u32],
+    n: usize,
+    table: &mut [u32],
+    sets: &mut [u32],
+) -> ComplementAnswer
+    requires { ⌜ WorkTable (now ids) width (now cells) n ⌝ }
+    ensures { λ r. ⌜ FusedUnion (take width (now (ids .entry))) (rowsIn width n (now (cells .entry))) (complementSays r)
+        (now (table .entry)) (now (table .exit)) (now (sets .entry)) (now (sets .exit)) ⌝ }
+{
+    let mut columns = [0u64; Table::MAX_COLUMNS];
+    patterns::fill_columns(cells, n, width, &mut columns);
+    let mut list = [0u64; 1025];
+    let count = list_sets(cells, n, width, &columns, &mut list);
+    if 1024 < count {
+        return ComplementAnswer::Refused {
+            number: 9,
+            table: 2,
+        };
+    }
+    let all = &list[..count];
+    fuse_sets(&ids[..width], cells, n, &columns, all, table, sets)
 }
 
 // A call that isn't refused meets demand 3.
@@ -238,29 +262,9 @@ pub fn complement_union(
             table: checks.table,
         };
     }
-    let width = checks.columns;
-    let found = &all[..width];
+    let columns = checks.columns;
+    let found = &all[..columns];
     let mut t = Table::new(found);
     t.rows = union_rows(a, b, found, &mut t.cells);
-    let mut columns = [0u64; Table::MAX_COLUMNS];
-    patterns::fill_columns(&t.cells, t.rows, t.columns, &mut columns);
-    let mut list = [0u64; 1025];
-    let count = list_sets(&t.cells, t.rows, t.columns, &columns, &mut list);
-    if 1024 < count {
-        return ComplementAnswer::Refused {
-            number: 9,
-            table: 2,
-        };
-    }
-    let listed = &list[..count];
-    fuse_sets(
-        &t.ids,
-        t.columns,
-        &t.cells,
-        t.rows,
-        &columns,
-        listed,
-        table,
-        sets,
-    )
+    fuse_table(&t.ids, t.columns, &t.cells, t.rows, table, sets)
 }

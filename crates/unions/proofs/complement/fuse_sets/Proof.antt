@@ -1,17 +1,10 @@
--- The ids in use are a part of the table's, and the lists that are lent are long enough for the sets.
-use mathlib.Core.Path.{sym}
-use lib.Seq.{length-take-le}
+-- The lists that are lent are long enough for the sets.
 use borrow.Author.Needs.{needs}
 use Rattle.unions.proofs.complement.fuse_sets.Statement.{statement}
 use Rattle.unions.proofs.complement.fuse_sets.Tie as tie
 
-slice-aggregate-ids : tie.Need-slice-aggregate-ids
-slice-aggregate-ids c =
-    let s = c .before .before .before .before .before .before .before in
-    sym (length-take-le (s .args .width) (s .args .all .now) (s .pre .0))
-
 fuse-few-requires : tie.Need-fuse-few-requires
-fuse-few-requires c κs = (c .before .before .before .before .before .before .before .before .before .before .pre .1, search needs)
+fuse-few-requires c κs = (c .before .before .before .before .before .before .before .before .before .pre, search needs)
 
 same-length : tie.Need-same-length
 same-length c = search needs
@@ -23,7 +16,7 @@ returns : tie.Need-returns
 returns c = c .before .before .before .before .fuse-few .ensures
 
 fuse-some-requires : tie.Need-fuse-some-requires
-fuse-some-requires c κs = (c .before .before .before .before .before .before .before .before .before .before .before .pre .1, search needs)
+fuse-some-requires c κs = (c .before .before .before .before .before .before .before .before .before .before .pre, search needs)
 
 same-length-3 : tie.Need-same-length-3
 same-length-3 c = search needs
@@ -35,7 +28,7 @@ returns-2 : tie.Need-returns-2
 returns-2 c = c .before .before .before .before .fuse-some .ensures
 
 fuse-many-requires : tie.Need-fuse-many-requires
-fuse-many-requires c κs = c .before .before .before .before .before .before .before .before .before .before .before .pre .1
+fuse-many-requires c κs = c .before .before .before .before .before .before .before .before .before .before .pre
 
 same-length-5 : tie.Need-same-length-5
 same-length-5 c = search needs
@@ -49,5 +42,5 @@ returns-3 c = c .before .before .before .before .fuse-many .ensures
 pub fuse-sets-spec : {M : Type 1} → statement M
 fuse-sets-spec =
     tie.close
-    (tie.spec slice-aggregate-ids fuse-few-requires same-length same-length-2 returns fuse-some-requires same-length-3 same-length-4 returns-2
+    (tie.spec fuse-few-requires same-length same-length-2 returns fuse-some-requires same-length-3 same-length-4 returns-2
     fuse-many-requires same-length-5 same-length-6 returns-3)
