@@ -3,7 +3,7 @@ use mathlib.Core.Path.{_≡_, refl, sym, _∙_, ap, ap₂, subst}
 use mathlib.Core.Bool.{cond}
 use mathlib.Core.List.{List, [], _∷_, map, map-append, flatten}
 use Prim.Native.Nat.{ℕ, _+_, _*_, _/_, _%_, _^_, _<_, _≤_}
-use native.Mathlib.Nat.{lt-of-lt-of-le, add-mul, one-mul}
+use native.Mathlib.Nat.{lt-of-lt-of-le}
 use native.Mathlib.Numerals.{add-one}
 use native.Mathlib.Omega.{arith}
 use lib.ListN.{length, getD, take, drop, drop-of-length-le, length-map}
@@ -16,7 +16,7 @@ use Rattle.definitions.specs.Word.{isFilled}
 use Rattle.definitions.specs.Image.{rowsIn}
 use Rattle.definitions.specs.MinimumUnion.{filled}
 use Rattle.definitions.specs.SetList.{bits}
-use Rattle.lists.proofs.Flat.{row-fits, words-rows}
+use Rattle.lists.proofs.Flat.{words-rows}
 use Rattle.lists.proofs.Walks.{next}
 use Rattle.patterns.specs.Pattern.{patternOf}
 use Rattle.patterns.proofs.Digits.{bit-small, bits-small, mark-next}

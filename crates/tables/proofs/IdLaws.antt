@@ -20,7 +20,7 @@ use Rattle.definitions.proofs.Questions.{passed-is}
 use Rattle.definitions.proofs.Images.{passed-ids}
 use Rattle.images.proofs.Parts.{columns-part}
 use Rattle.lists.proofs.Pastes.{paste-front}
-use Rattle.tables.specs.Places.{withNew, BothIds}
+use Rattle.tables.specs.Places.{maxIds, withNew, BothIds}
 use Rattle.tables.proofs.Smaller.{distinct-count, new-distinct, new-ascending}
 
 -- ---- the loop: i ids are looked at, and those that are new stand after the first m
@@ -107,7 +107,7 @@ both-ids a b oa ob all e = record {
 -- the ids of two images, as the code writes them
 pub both-added : (all x y a b p q : List ℕ) (k m r : ℕ) → Columns k a p → Columns m b q → x ≡ paste all 0 (map idOf p) (length p)
     → take r y ≡ withNew (take k x) (map idOf q) → r ≤ k + length q → imageNumber maxRows a ≡ 0 → imageNumber maxRows b ≡ 0
-    → BothIds a b (take r y) × (r ≤ 32)
+    → BothIds a b (take r y) × (r ≤ maxIds)
 both-added all x y a b p q k m r u v ex ey few oa ob =
     let f = u .few in
     let g = v .few in

@@ -5,6 +5,7 @@ use mathlib.Core.List.{List, [], _∷_, _++_, map}
 use Prim.Native.Nat.{ℕ, _+_}
 use lib.Dec.{eqb, ltb}
 use lib.ListN.{length, set}
+use Rattle.definitions.specs.Limits.{maxColumns}
 use Rattle.definitions.specs.Lists.{any, keep, distinct}
 use Rattle.definitions.specs.Image.{imageIds}
 use Rattle.definitions.specs.Ascending.{ascending}
@@ -14,6 +15,10 @@ use Rattle.definitions.specs.Statements.{Stands, Rising}
 -- ids, and after them those of a second list that are none of them
 abbrev pub withNew : List ℕ → List ℕ → List ℕ
 withNew ids more = ids ++ keep (λ id. not (any (eqb id) ids)) more
+
+-- two images have at most so many ids
+abbrev pub maxIds : ℕ
+maxIds = maxColumns + maxColumns
 
 -- ids in ascending order
 abbrev pub inOrder : List ℕ → List ℕ

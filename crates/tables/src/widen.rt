@@ -13,13 +13,13 @@ ghost use Rattle.definitions.specs.Image.{imageIds, rowCount};
 ghost use Rattle.definitions.specs.OuterUnion.{widenedRows};
 ghost use Rattle.definitions.specs.Statements.{Stands};
 ghost use Rattle.definitions.specs.Questions.{imageNumber};
-ghost use Rattle.tables.specs.Places.{placesIn, scattered, inOrder, Covers};
+ghost use Rattle.tables.specs.Places.{maxIds, placesIn, scattered, inOrder, Covers};
 use crate::Table;
 use crate::columns::smaller;
 
 // Where each column word's id stands among the union's ids, once these are in order.
 pub fn column_places(columns: &[u32], union: &[u32], places: &mut [usize])
-    requires { ⌜ (length (now columns) ≤ length (now places)) × (length (now union) ≤ 32) ⌝ }
+    requires { ⌜ (length (now columns) ≤ length (now places)) × (length (now union) ≤ maxIds) ⌝ }
     ensures { λ r. ⌜ now (places .exit) ≡ paste (now (places .entry)) 0 (placesIn (now (union .entry)) (map idOf (now (columns .entry)))) (length (now (columns .entry))) ⌝ }
 {
     let mut j = 0;

@@ -58,14 +58,19 @@ fusedOutcome ids rows room setRoom =
     (done (length (fusedRows rows) ∷ length (imageOf ids (fusedRows rows)) ∷ filled (flatten (fusedRows rows))
     ∷ length (unionSets rows) ∷ length (setList rows) ∷ [])))
 
--- a call that says this has left both buffers as its answer tells
-pub record FusedInto (ids : List ℕ) (rows : List (List ℕ)) (says : Outcome) (table tableAfter sets setsAfter : List ℕ) : Type 0 where
-  pub answers : says ≡ fusedOutcome ids rows (length table) (length sets)
+-- what is said is the outcome, and both buffers are left as it tells
+pub record FusedBy (outcome : Outcome) (ids : List ℕ) (rows : List (List ℕ)) (says : Outcome) (table tableAfter sets setsAfter : List ℕ) : Type 0 where
+  pub answers : says ≡ outcome
   pub writes : tableAfter ≡ afterwards says (imageOf ids (fusedRows rows)) table
   pub lists : setsAfter ≡ afterwards says (setList rows) sets
 
--- the same of the questions from 9 on
-pub record FusedUnion (ids : List ℕ) (rows : List (List ℕ)) (says : Outcome) (table tableAfter sets setsAfter : List ℕ) : Type 0 where
-  pub answers : says ≡ unless (no (leb (length (unionSets rows)) maxSets) 9) 2 (fusedOutcome ids rows (length table) (length sets))
-  pub writes : tableAfter ≡ afterwards says (imageOf ids (fusedRows rows)) table
-  pub lists : setsAfter ≡ afterwards says (setList rows) sets
+-- for the questions 10 and 11
+abbrev pub FusedInto : List ℕ → List (List ℕ) → Outcome → List ℕ → List ℕ → List ℕ → List ℕ → Type 0
+FusedInto ids rows says table tableAfter sets setsAfter =
+    FusedBy (fusedOutcome ids rows (length table) (length sets)) ids rows says table tableAfter sets setsAfter
+
+-- for the questions from 9 on
+abbrev pub FusedUnion : List ℕ → List (List ℕ) → Outcome → List ℕ → List ℕ → List ℕ → List ℕ → Type 0
+FusedUnion ids rows says table tableAfter sets setsAfter =
+    FusedBy (unless (no (leb (length (unionSets rows)) maxSets) 9) 2 (fusedOutcome ids rows (length table) (length sets)))
+    ids rows says table tableAfter sets setsAfter

@@ -1,6 +1,7 @@
 // The questions 1 to 8, put to a pair of images.
 ghost use Prim.Native.Nat.{_≤_};
 ghost use lib.ListN.{length};
+ghost use Rattle.tables.specs.Places.{maxIds};
 ghost use Rattle.unions.specs.Pair.{Checked};
 use tables::Table;
 
@@ -13,7 +14,7 @@ pub struct Checks {
 
 // Writes the ids of both images over the list, each once, to count them; an accepted pair's table is made of them.
 pub fn check_pair(a: &[u32], b: &[u32], all: &mut [u32]) -> Checks
-    requires { ⌜ 32 ≤ length (now all) ⌝ }
+    requires { ⌜ maxIds ≤ length (now all) ⌝ }
     ensures { λ r. ⌜ Checked (now (a .entry)) (now (b .entry)) (now (all .exit)) r ⌝ }
 {
     let first = images::check_image(a, 32);

@@ -1,12 +1,11 @@
 -- `minimum_rows` meets its contract: the rows are counted, the rows with more filled cells and those filled in each column are marked, and
 -- then each row is tried. Assumes nothing.
 use borrow.Author.Needs.{needs}
-use Prim.Native.Nat.{ℕ, _≤_, _<_}
+use Prim.Native.Nat.{ℕ, _<_}
 use mathlib.Core.Path.{_≡_, sym}
 use mathlib.Core.List.{List}
 use native.Mathlib.Omega.{arith}
 use lib.ListN.{length, getD, take}
-use Rattle.definitions.specs.Limits.{maxColumns}
 use Rattle.tables.proofs.Scatter.{empty-cells}
 use Rattle.patterns.proofs.FilledRows.{columns-none}
 use Rattle.minimum.proofs.Counting.{counted-length, count-small}
