@@ -52,7 +52,8 @@ fn keep_rows(
 
 // Writes the numbers of those of the first n rows that none of these subsumes, ascending.
 pub fn minimum_rows(cells: &[u32], n: usize, width: usize, kept: &mut [u32]) -> Kept
-    requires { ⌜ (n ≤ maxUnionRows) × (width ≤ maxColumns) × (n * width ≤ length (now cells)) × (n ≤ length (now kept)) ⌝ }
+    requires { ⌜ (n ≤ maxUnionRows) × (width ≤ maxColumns) × (n * width ≤ length (now cells))
+        × (n ≤ length (now kept)) ⌝ }
     ensures { λ r. ⌜ KeptRows width n (now (cells .entry)) (now (kept .exit)) (r .rows) (r .pairs) ⌝ }
 {
     let mut counts = [0u32; Table::MAX_ROWS];

@@ -14,7 +14,8 @@ use crate::widen::widen_table;
 // Writes the rows of two accepted images, widened to the columns of both, one after the other over empty cells; how many they are.
 pub fn widen_both(a: &[u32], b: &[u32], all: &[u32], cells: &mut [u32; Table::MAX_CELLS]) -> usize
     requires { ⌜ Found (now a) (now b) (now all) × ((k : ℕ) → getD (now cells) k 0 ≡ 0) ⌝ }
-    ensures { λ r. ⌜ CellsOf (bothRows (now (a .entry)) (now (b .entry))) (length (now (all .entry))) r (now (cells .exit)) ⌝ }
+    ensures { λ r. ⌜ CellsOf (bothRows (now (a .entry)) (now (b .entry))) (length (now (all .entry))) r
+        (now (cells .exit)) ⌝ }
 {
     let first = words::rows(a[0]) as usize;
     let second = words::rows(b[0]) as usize;
@@ -25,8 +26,10 @@ pub fn widen_both(a: &[u32], b: &[u32], all: &[u32], cells: &mut [u32; Table::MA
 
 // Writes the distinct rows among the first n, ascending; how many they are.
 pub fn order_cells(wide: &[u32], width: usize, n: usize, cells: &mut [u32]) -> usize
-    requires { ⌜ (width ≤ maxColumns) × (n ≤ maxUnionRows) × (n * width ≤ length (now wide)) × (maxUnionRows * maxColumns ≤ length (now cells)) ⌝ }
-    ensures { λ r. ⌜ (rowsIn width r (now (cells .exit)) ≡ ascending compareRow (rowsIn width n (now (wide .entry)))) × (r ≤ n) ⌝ }
+    requires { ⌜ (width ≤ maxColumns) × (n ≤ maxUnionRows) × (n * width ≤ length (now wide))
+        × (maxUnionRows * maxColumns ≤ length (now cells)) ⌝ }
+    ensures { λ r. ⌜ (rowsIn width r (now (cells .exit)) ≡ ascending compareRow (rowsIn width n (now (wide .entry))))
+        × (r ≤ n) ⌝ }
 {
     let mut order = [0u32; Table::MAX_ROWS];
     let mut spare = [0u32; Table::MAX_ROWS];
@@ -38,7 +41,8 @@ pub fn order_cells(wide: &[u32], width: usize, n: usize, cells: &mut [u32]) -> u
 // Writes T, the distinct widened rows of two accepted images, ascending; how many rows it has.
 pub fn union_rows(a: &[u32], b: &[u32], all: &[u32], cells: &mut [u32; Table::MAX_CELLS]) -> usize
     requires { ⌜ Found (now a) (now b) (now all) ⌝ }
-    ensures { λ r. ⌜ CellsOf (unionRows (now (a .entry)) (now (b .entry))) (length (now (all .entry))) r (now (cells .exit)) ⌝ }
+    ensures { λ r. ⌜ CellsOf (unionRows (now (a .entry)) (now (b .entry))) (length (now (all .entry))) r
+        (now (cells .exit)) ⌝ }
 {
     let mut wide = [0u32; Table::MAX_CELLS];
     let count = widen_both(a, b, all, &mut wide);

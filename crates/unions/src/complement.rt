@@ -21,7 +21,8 @@ use tables::union_rows;
 
 // Lists the maximal sets of the first n rows; how many they are, at most 1,025. Each column's word holds the rows that are filled there.
 pub fn list_sets(cells: &[u32], n: usize, width: usize, columns: &[u64], list: &mut [u64]) -> usize
-    requires { ⌜ (n ≤ maxUnionRows) × (n * width ≤ length (now cells)) × ColumnsOf (rowsIn width n (now cells)) width (now columns) × (suc maxSets ≤ length (now list)) ⌝ }
+    requires { ⌜ (n ≤ maxUnionRows) × (n * width ≤ length (now cells))
+        × ColumnsOf (rowsIn width n (now cells)) width (now columns) × (suc maxSets ≤ length (now list)) ⌝ }
     ensures { λ r. ⌜ SetsOf (rowsIn width n (now (cells .entry))) (now (list .exit)) r ⌝ }
 {
     let mut neighbours = [0u64; Table::MAX_ROWS];
@@ -41,9 +42,13 @@ pub fn fuse_rows(
     order: &mut [u32],
     places: &mut [u32],
 ) -> usize
-    requires { ⌜ (n * width ≤ length (now cells)) × ColumnsOf (rowsIn width n (now cells)) width (now columns) × (length (now list) ≤ maxSets) × (now list ≡ map bits (unionSets (rowsIn width n (now cells)))) ⌝ }
-    requires { ⌜ (length (now list) * width ≤ length (now joined)) × (length (now list) ≤ length (now order)) × (length (now list) ≤ length (now places)) ⌝ }
-    ensures { λ r. ⌜ (r ≤ length (now (list .entry))) × (r ≤ length (now (order .exit))) × FusedOf (rowsIn width n (now (cells .entry))) width (now (joined .exit)) (take r (now (order .exit))) (take (length (now (list .entry))) (now (places .exit))) ⌝ }
+    requires { ⌜ (n * width ≤ length (now cells)) × ColumnsOf (rowsIn width n (now cells)) width (now columns)
+        × (length (now list) ≤ maxSets) × (now list ≡ map bits (unionSets (rowsIn width n (now cells)))) ⌝ }
+    requires { ⌜ (length (now list) * width ≤ length (now joined)) × (length (now list) ≤ length (now order))
+        × (length (now list) ≤ length (now places)) ⌝ }
+    ensures { λ r. ⌜ (r ≤ length (now (list .entry))) × (r ≤ length (now (order .exit)))
+        × FusedOf (rowsIn width n (now (cells .entry))) width (now (joined .exit)) (take r (now (order .exit)))
+        (take (length (now (list .entry))) (now (places .exit))) ⌝ }
 {
     let count = list.len();
     fusing::join_sets(cells, n, width, columns, list, count, joined);
@@ -79,8 +84,10 @@ pub fn write_fused(
     sets: &mut [u32],
 ) -> ComplementAnswer
     requires { ⌜ ListedTable (now ids) (now cells) n (now columns) (now list) ⌝ }
-    requires { ⌜ (length (now list) * length (now ids) ≤ length (now joined)) × (length (now list) ≤ length (now order)) × (length (now list) ≤ length (now places)) ⌝ }
-    ensures { λ r. ⌜ FusedInto (now (ids .entry)) (rowsIn (length (now (ids .entry))) n (now (cells .entry))) (complementSays r) (now (table .entry)) (now (table .exit)) (now (sets .entry)) (now (sets .exit)) ⌝ }
+    requires { ⌜ (length (now list) * length (now ids) ≤ length (now joined))
+        × (length (now list) ≤ length (now order)) × (length (now list) ≤ length (now places)) ⌝ }
+    ensures { λ r. ⌜ FusedInto (now (ids .entry)) (rowsIn (length (now (ids .entry))) n (now (cells .entry)))
+        (complementSays r) (now (table .entry)) (now (table .exit)) (now (sets .entry)) (now (sets .exit)) ⌝ }
 {
     let width = ids.len();
     let rows = fuse_rows(cells, n, width, columns, list, joined, order, places);
@@ -112,7 +119,8 @@ pub fn fuse_few(
     sets: &mut [u32],
 ) -> ComplementAnswer
     requires { ⌜ ListedTable (now ids) (now cells) n (now columns) (now list) × (length (now list) ≤ 64) ⌝ }
-    ensures { λ r. ⌜ FusedInto (now (ids .entry)) (rowsIn (length (now (ids .entry))) n (now (cells .entry))) (complementSays r) (now (table .entry)) (now (table .exit)) (now (sets .entry)) (now (sets .exit)) ⌝ }
+    ensures { λ r. ⌜ FusedInto (now (ids .entry)) (rowsIn (length (now (ids .entry))) n (now (cells .entry)))
+        (complementSays r) (now (table .entry)) (now (table .exit)) (now (sets .entry)) (now (sets .exit)) ⌝ }
 {
     let mut joined = [0u32; 64 * Table::MAX_COLUMNS];
     let mut order = [0u32; 64];
@@ -142,7 +150,8 @@ pub fn fuse_some(
     sets: &mut [u32],
 ) -> ComplementAnswer
     requires { ⌜ ListedTable (now ids) (now cells) n (now columns) (now list) × (length (now list) ≤ 256) ⌝ }
-    ensures { λ r. ⌜ FusedInto (now (ids .entry)) (rowsIn (length (now (ids .entry))) n (now (cells .entry))) (complementSays r) (now (table .entry)) (now (table .exit)) (now (sets .entry)) (now (sets .exit)) ⌝ }
+    ensures { λ r. ⌜ FusedInto (now (ids .entry)) (rowsIn (length (now (ids .entry))) n (now (cells .entry)))
+        (complementSays r) (now (table .entry)) (now (table .exit)) (now (sets .entry)) (now (sets .exit)) ⌝ }
 {
     let mut joined = [0u32; 256 * Table::MAX_COLUMNS];
     let mut order = [0u32; 256];
@@ -172,7 +181,8 @@ pub fn fuse_many(
     sets: &mut [u32],
 ) -> ComplementAnswer
     requires { ⌜ ListedTable (now ids) (now cells) n (now columns) (now list) ⌝ }
-    ensures { λ r. ⌜ FusedInto (now (ids .entry)) (rowsIn (length (now (ids .entry))) n (now (cells .entry))) (complementSays r) (now (table .entry)) (now (table .exit)) (now (sets .entry)) (now (sets .exit)) ⌝ }
+    ensures { λ r. ⌜ FusedInto (now (ids .entry)) (rowsIn (length (now (ids .entry))) n (now (cells .entry)))
+        (complementSays r) (now (table .entry)) (now (table .exit)) (now (sets .entry)) (now (sets .exit)) ⌝ }
 {
     let mut joined = [0u32; 1024 * Table::MAX_COLUMNS];
     let mut order = [0u32; 1024];
@@ -203,7 +213,8 @@ pub fn fuse_sets(
     sets: &mut [u32],
 ) -> ComplementAnswer
     requires { ⌜ ListedTable (now ids) (now cells) n (now columns) (now list) ⌝ }
-    ensures { λ r. ⌜ FusedInto (now (ids .entry)) (rowsIn (length (now (ids .entry))) n (now (cells .entry))) (complementSays r) (now (table .entry)) (now (table .exit)) (now (sets .entry)) (now (sets .exit)) ⌝ }
+    ensures { λ r. ⌜ FusedInto (now (ids .entry)) (rowsIn (length (now (ids .entry))) n (now (cells .entry)))
+        (complementSays r) (now (table .entry)) (now (table .exit)) (now (sets .entry)) (now (sets .exit)) ⌝ }
 {
     if list.len() <= 64 {
         return fuse_few(ids, cells, n, columns, list, table, sets);
