@@ -16,14 +16,12 @@ use Rattle.lists.proofs.Walks.{next, end}
 use Rattle.lists.proofs.Flat.{rows-length, rows-at}
 use Rattle.bitsets.specs.Bits.{has, both, rowsBelow}
 use Rattle.bitsets.proofs.Bits.{has-both, has-or, has-none, below-in}
-use Rattle.patterns.specs.Marks.{blankOf}
-use Rattle.patterns.proofs.Marking.{has-blank, blank-fits}
-use Rattle.fusing.specs.Columns.{filledIn, ColumnsOf}
+use Rattle.patterns.specs.Columns.{blankOf, filledIn, ColumnsOf}
+use Rattle.patterns.proofs.FilledRows.{filled-has, has-blank, blank-fits}
+use Rattle.patterns.proofs.Parts.{row-length, part-is, part-length}
 use Rattle.fusing.specs.Graph.{Seen, CrossingOf, Crossing}
 use Rattle.fusing.proofs.Words.{has-lacked}
 use Rattle.fusing.proofs.Apart.{bothIn, complement-filled}
-use Rattle.fusing.proofs.FilledRows.{filled-has}
-use Rattle.fusing.proofs.Parts.{row-length, part-is, part-length}
 
 -- ---- one row t, of number k, and the row s: i columns are passed
 

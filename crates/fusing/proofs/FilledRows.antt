@@ -1,117 +1,23 @@
--- The rows that are filled in a column, row by row and column by column. Assumes nothing.
-use mathlib.Core.Path.{_≡_, refl, sym, _∙_, ap, ap₂, subst}
-use mathlib.Core.Bool.{Bool, true, cond}
-use mathlib.Core.List.{List, [], _∷_, _++_, map, map-append}
-use Prim.Native.Nat.{ℕ, _+_, _-_, _*_, _%_, _^_, _<_, _≤_}
+-- The cells of the rows that a column's word holds are within the words. Assumes nothing.
+use mathlib.Core.Path.{_≡_, sym, _∙_, ap}
+use mathlib.Core.List.{List}
+use Prim.Native.Nat.{ℕ, _+_, _*_, _<_, _≤_}
 use native.Mathlib.Omega.{arith}
-use lib.Bits.{bitOr}
-use lib.ListN.{length, getD, set, replicate, take, drop, length-set, length-map, length-replicate, getD-replicate}
-use lib.Seq.{getD-take, getD-drop, getD-set-same, getD-set-other}
-use borrow.Author.Count.{below-more}
-use Rattle.definitions.specs.Word.{isFilled}
+use lib.ListN.{length, getD, drop}
+use lib.Seq.{getD-take, getD-drop}
 use Rattle.definitions.specs.Image.{rowsIn}
-use Rattle.definitions.specs.ComplementUnion.{marked}
-use Rattle.definitions.specs.SetList.{bits}
-use Rattle.definitions.proofs.Sets.{marked-get, holds-within}
 use Rattle.lists.proofs.Flat.{rows-length, row-fits}
 use Rattle.bitsets.specs.Bits.{has}
-use Rattle.bitsets.proofs.Bits.{has-bits}
-use Rattle.patterns.proofs.Digits.{mark-next}
+use Rattle.patterns.specs.Columns.{ColumnsOf}
+use Rattle.patterns.proofs.FilledRows.{filled-within}
 use Rattle.rows.specs.Numbers.{rowAt}
-use Rattle.fusing.specs.Columns.{filledIn, ColumnsOf, FilledRow, Within}
-use Rattle.definitions.proofs.Lists.{map-at}
-use Rattle.fusing.proofs.Lists.{rows-snoc}
-use Rattle.fusing.proofs.Parts.{part-is, part-length}
+use Rattle.fusing.specs.Columns.{Within}
 
 -- the cell i of the row k
 pub cell-at : (c k i : ℕ) (w : List ℕ) → i < c → getD (rowAt c w k) i 0 ≡ getD w (k * c + i) 0
 cell-at c k i w h = getD-take c (drop (k * c) w) i 0 h ∙ getD-drop (k * c) w i 0
 
-filled-none : (column : ℕ) → filledIn [] column ≡ 0
-unfolding filledIn bits
-filled-none column = refl
-
--- one row more
-filled-snoc : (rows : List (List ℕ)) (row : List ℕ) (column j word b : ℕ) → length rows ≡ j → j < 64 → word ≡ filledIn rows column
-    → b ≡ cond (isFilled (getD row column 0)) 1 0 → bitOr word (b * 2 ^ j % 2 ^ 64) ≡ filledIn (rows ++ (row ∷ [])) column
-unfolding filledIn
-filled-snoc rows row column j word b size h e eb =
-    let f : List ℕ → Bool = λ r. isFilled (getD r column 0) in
-    mark-next 64 (map f rows) (f row) word b j h (length-map rows f ∙ size) e eb
-    ∙ ap bits (sym (map-append f rows (row ∷ [])))
-
--- a row that is filled in a column
-pub filled-has : (rows : List (List ℕ)) (column k : ℕ) → k < length rows → has (filledIn rows column) k ≡ isFilled (getD (getD rows k []) column 0)
-unfolding filledIn
-filled-has rows column k h =
-    let f : List ℕ → Bool = λ r. isFilled (getD r column 0) in
-    has-bits (map f rows) k ∙ marked-get (map f rows) k ∙ map-at f [] (isFilled 0) rows k h
-
-pub filled-within : (rows : List (List ℕ)) (column k : ℕ) → has (filledIn rows column) k ≡ true → k < length rows
-unfolding filledIn
-filled-within rows column k h =
-    let f : List ℕ → Bool = λ r. isFilled (getD r column 0) in
-    let m : marked (map f rows) k ≡ true = sym (has-bits (map f rows) k) ∙ h in
-    omega (arith, holds-within (map f rows) k m, length-map rows f)
-
 pub columns-within : (c n : ℕ) (w columns : List ℕ) → n * c ≤ length w → ColumnsOf (rowsIn c n w) c columns → Within c columns w
 columns-within c n w columns fits o i h k g =
     let l : k < n = omega (arith, filled-within (rowsIn c n w) i k (ap (λ (x : ℕ). has x k) (sym (o .marks i h)) ∙ g), rows-length c n w) in
     omega (arith, row-fits c n k l)
-
--- ---- one row more in the columns' words
-
--- the first c columns hold row j
-pub record FilledTo (row : List ℕ) (j : ℕ) (found : List ℕ) (c : ℕ) (columns : List ℕ) : Type 0 where
-  pub size : length columns ≡ length found
-  pub done : (i : ℕ) → i < c → getD columns i 0 ≡ bitOr (getD found i 0) (cond (isFilled (getD row i 0)) 1 0 * 2 ^ j % 2 ^ 64)
-  pub left : (i : ℕ) → c ≤ i → getD columns i 0 ≡ getD found i 0
-
-module _ (row : List ℕ) (j : ℕ) (found : List ℕ) where
-  pub filled-to-none : FilledTo row j found 0 found
-  filled-to-none = record { size = refl; done = λ i h. absurd (omega arith); left = λ i h. refl }
-
-  pub filled-to-turn : (c : ℕ) (columns : List ℕ) (b : ℕ) → c < length found → b ≡ cond (isFilled (getD row c 0)) 1 0 → FilledTo row j found c columns
-      → FilledTo row j found (c + 1) (set columns c (bitOr (getD columns c 0) (b * 2 ^ j % 2 ^ 64)))
-  filled-to-turn c columns b h eb inv =
-      let size : length columns ≡ length found = inv .size in
-      let v : ℕ = bitOr (getD columns c 0) (b * 2 ^ j % 2 ^ 64) in
-      record {
-        size = length-set columns c v ∙ size;
-        done = below-more (λ (i : ℕ). getD (set columns c v) i 0 ≡ bitOr (getD found i 0) (cond (isFilled (getD row i 0)) 1 0 * 2 ^ j % 2 ^ 64)) c
-            (λ i g. getD-set-other columns c i v 0 (λ q. omega arith) ∙ inv .done i g)
-            (getD-set-same columns c v 0 (omega arith)
-            ∙ ap₂ (λ (x y : ℕ). bitOr x (y * 2 ^ j % 2 ^ 64)) (inv .left c (omega arith)) eb);
-        left = λ i g. getD-set-other columns c i v 0 (λ q. omega arith) ∙ inv .left i (omega arith);
-      }
-
-  pub filled-to-end : (c : ℕ) (columns : List ℕ) → length row ≤ c → j < 64 → FilledTo row j found c columns → FilledRow row j found columns
-  filled-to-end c columns all small inv = record {
-    more = λ rows size o.
-        let same : length columns ≡ length found = inv .size in
-        record {
-          size = omega (arith, o .size);
-          marks = λ i h.
-              inv .done i (omega arith)
-              ∙ filled-snoc rows row i j (getD found i 0) (cond (isFilled (getD row i 0)) 1 0) size small (o .marks i h) refl;
-        };
-  }
-
--- ---- the rows one after the other
-
-pub columns-none : (width : ℕ) → width ≤ 16 → ColumnsOf [] width (replicate 16 0)
-columns-none width h = record {
-  size = omega (arith, length-replicate {A = ℕ} 16 0);
-  marks = λ c g. getD-replicate 16 c 0 0 (omega arith) ∙ sym (filled-none c);
-}
-
--- n rows of c cells stand in w, and the row j, from at on, is the next
-pub columns-more : (c n j at : ℕ) (w : List ℕ) → n * c ≤ length w → j < n → at ≡ j * c → (found columns : List ℕ)
-    → ColumnsOf (rowsIn c j w) c found → FilledRow (take (at + c - at) (drop at w)) j found columns → ColumnsOf (rowsIn c (j + 1) w) c columns
-columns-more c n j at w fits more here found columns o f =
-    let part : List ℕ = take (at + c - at) (drop at w) in
-    let long : length part ≡ c = part-length c n j w fits more at here in
-    subst (λ (r : List (List ℕ)). ColumnsOf r c columns)
-    (ap (λ (u : List ℕ). rowsIn c j w ++ (u ∷ [])) (part-is c n j w fits more at here) ∙ sym (rows-snoc c j w))
-    (subst (λ (k : ℕ). ColumnsOf (rowsIn c j w ++ (part ∷ [])) k columns) long
-    (f .more (rowsIn c j w) (rows-length c j w) (subst (λ (k : ℕ). ColumnsOf (rowsIn c j w) k found) (sym long) o)))

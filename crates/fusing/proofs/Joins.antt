@@ -15,7 +15,7 @@ use Rattle.definitions.proofs.Lists.{map-at, stands-get, map-stands}
 use Rattle.definitions.proofs.Counts.{flatten-length}
 use Rattle.lists.proofs.Flat.{Wide, row-fits, flat-row, pasted-rows}
 use Rattle.lists.proofs.Pastes.{Pasted, paste-none, pasted-more}
-use Rattle.fusing.specs.Columns.{ColumnsOf}
+use Rattle.patterns.specs.Columns.{ColumnsOf}
 use Rattle.fusing.specs.Join.{pickFrom}
 use Rattle.fusing.proofs.Picks.{joined-wide, picks-joined}
 

@@ -1,6 +1,5 @@
 -- Laws of the graph of T, of joined rows and of the set list.
 pub mod Lists
-pub mod Parts
 pub mod Words
 pub mod Rests
 pub mod FilledRows

@@ -16,13 +16,14 @@ use Rattle.lists.proofs.Flat.{rows-length, rows-at}
 use Rattle.bitsets.specs.Bits.{has, both, withoutLowest}
 use Rattle.cliques.specs.Graph.{near}
 use Rattle.bitsets.proofs.Bits.{Lowest, has-both, has-or}
-use Rattle.fusing.specs.Columns.{ColumnsOf}
+use Rattle.patterns.specs.Columns.{ColumnsOf}
+use Rattle.patterns.proofs.FilledRows.{filled-has}
+use Rattle.patterns.proofs.Parts.{row-length}
 use Rattle.fusing.specs.Groups.{cellIn, Groups}
 use Rattle.fusing.specs.Graph.{NarrowedBy, Narrowed}
 use Rattle.fusing.proofs.Words.{has-lacked}
 use Rattle.fusing.proofs.Rests.{passed, passed-none, passed-all, among-more, next-not, passed-next, passed-else, passed-cases}
-use Rattle.fusing.proofs.FilledRows.{cell-at, filled-has}
-use Rattle.fusing.proofs.Parts.{row-length}
+use Rattle.fusing.proofs.FilledRows.{cell-at}
 use Rattle.fusing.proofs.Agreeing.{cellsAgree, AgreesFrom, agree-turn, agree-end}
 
 -- ---- the rows of one column

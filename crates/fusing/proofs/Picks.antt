@@ -24,9 +24,10 @@ use Rattle.definitions.proofs.Joined.{members-are, members-agree, joined-some, 
 use Rattle.lists.proofs.Flat.{rows-length, rows-at, rows-wide}
 use Rattle.bitsets.specs.Bits.{has, both, lowest}
 use Rattle.bitsets.proofs.Bits.{Lowest, has-both, has-none, has-bits, lowest-one, trailing-lowest, is-lowest}
-use Rattle.fusing.specs.Columns.{filledIn, ColumnsOf}
+use Rattle.patterns.specs.Columns.{filledIn, ColumnsOf}
+use Rattle.patterns.proofs.FilledRows.{filled-has}
 use Rattle.fusing.specs.Join.{pickCell, pickFrom}
-use Rattle.fusing.proofs.FilledRows.{cell-at, filled-has}
+use Rattle.fusing.proofs.FilledRows.{cell-at}
 
 -- ---- the cell of the first row of a set
 

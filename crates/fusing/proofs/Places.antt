@@ -25,7 +25,7 @@ use Rattle.rows.proofs.Numbers.{below-at}
 use Rattle.rows.proofs.Places.{ordered-listed, ordered-stands}
 use Rattle.fusing.specs.Records.{placesIn, Cleared, Placed}
 use Rattle.fusing.proofs.Lists.{paste-rest}
-use Rattle.fusing.proofs.Parts.{part-is, part-length}
+use Rattle.patterns.proofs.Parts.{part-is, part-length}
 
 -- ---- the places that the numbers tell
 

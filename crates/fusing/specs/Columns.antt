@@ -1,25 +1,10 @@
--- The columns' words: for each column the set of the rows that are filled there, bit k for row k.
+-- The cells in a column of the rows of a set, and of the rows that a column's word holds.
 use mathlib.Core.Path.{_≡_}
 use mathlib.Core.Bool.{true}
-use mathlib.Core.List.{List, [], _∷_, _++_, map}
-use Prim.Native.Nat.{ℕ, _+_, _*_, _≤_, _<_}
+use mathlib.Core.List.{List}
+use Prim.Native.Nat.{ℕ, _+_, _*_, _<_}
 use lib.ListN.{length, getD}
-use Rattle.definitions.specs.Word.{isFilled}
-use Rattle.definitions.specs.SetList.{bits}
 use Rattle.bitsets.specs.Bits.{has}
-
--- the rows that are filled in a column, as a set
-unfoldable pub filledIn : List (List ℕ) → ℕ → ℕ
-filledIn rows column = bits (map (λ r. isFilled (getD r column 0)) rows)
-
--- a word for each of the first columns: the rows that are filled there
-pub record ColumnsOf (rows : List (List ℕ)) (width : ℕ) (columns : List ℕ) : Type 0 where
-  pub size : width ≤ length columns
-  pub marks : (c : ℕ) → c < width → getD columns c 0 ≡ filledIn rows c
-
--- the columns' words hold row j too, after j rows
-pub record FilledRow (row : List ℕ) (j : ℕ) (found columns : List ℕ) : Type 0 where
-  pub more : (rows : List (List ℕ)) → length rows ≡ j → ColumnsOf rows (length row) found → ColumnsOf (rows ++ (row ∷ [])) (length row) columns
 
 -- the cells of the rows of a set in a column are there
 abbrev pub Reach : ℕ → List ℕ → ℕ → ℕ → Type 0

@@ -9,7 +9,7 @@ use Rattle.definitions.specs.Limits.{maxUnionRows}
 use Rattle.definitions.specs.ComplementUnion.{agree, complement, complementAt}
 use Rattle.bitsets.specs.Bits.{has}
 use Rattle.cliques.specs.Graph.{near, Graph}
-use Rattle.fusing.specs.Columns.{ColumnsOf}
+use Rattle.patterns.specs.Columns.{ColumnsOf}
 
 -- the words begin with the graph of these rows
 pub record GraphOf (rows : List (List ℕ)) (neighbours : List ℕ) : Type 0 where

@@ -8,7 +8,8 @@ ghost use lib.Seq.{paste};
 ghost use Rattle.definitions.specs.Image.{rowsIn};
 ghost use Rattle.definitions.specs.ComplementUnion.{joined, unionSets};
 ghost use Rattle.definitions.specs.SetList.{bits};
-ghost use Rattle.fusing.specs.Columns.{ColumnsOf, Reach, Within};
+ghost use Rattle.patterns.specs.Columns.{ColumnsOf};
+ghost use Rattle.fusing.specs.Columns.{Reach, Within};
 ghost use Rattle.fusing.specs.Join.{pickCell, pickFrom};
 
 // The cell in a column of the first row of the set; empty where the set is.

@@ -1,11 +1,9 @@
 // Complement union between T and the words that it writes: who complements whom, the joined rows of sets, and the set list.
-mod columns;
 mod graph;
 mod groups;
 mod join;
 mod list;
 
-pub use columns::fill_columns;
 pub use graph::fill_neighbours;
 pub use join::join_sets;
 pub use list::places_of;

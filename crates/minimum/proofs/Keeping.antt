@@ -14,7 +14,7 @@ use Rattle.definitions.specs.MinimumUnion.{subsumes, minimumRows, pairsTried}
 use Rattle.definitions.proofs.Lists.{keep-took, keep-left}
 use Rattle.lists.proofs.Flat.{rows-length, rows-at}
 use Rattle.rows.specs.Numbers.{rowAt, rowsAt, Below}
-use Rattle.minimum.specs.Trying.{isSubsumed, triesAt, Unsubsumed}
+use Rattle.minimum.specs.Trying.{triesAt, TriedRow, KeptRows}
 
 below-snoc : (n x : ℕ) (l : List ℕ) → Below n l → x < n → Below n (l ++ (x ∷ []))
 below-snoc n x [] b h = (h, tt)
@@ -38,14 +38,16 @@ kept-none c n w numbers = record { count = omega arith; below = tt; rows = refl;
 
 module _ {c n : ℕ} {w numbers : List ℕ} {m pairs k : ℕ} (inv : KeptTo c n w numbers m pairs k) where
   -- row k has been tried
-  module _ (few : n ≤ maxUnionRows) (more : k < n) {subsumed : Bool} {p : ℕ}
-      (told : subsumed ≡ isSubsumed (rowsIn c n w) k) (e : p ≡ triesAt (rowsIn c n w) k) (fewer : p < n) where
+  module _ (few : n ≤ maxUnionRows) (more : k < n) {subsumed : Bool} {p : ℕ} (told : TriedRow (rowsIn c n w) k subsumed p) where
+    fewer : p < n
+    fewer = omega (arith, told .fewer, rows-length c n w)
+
     sum-more : pairs + p ≡ sumBelow (k + 1) (triesAt (rowsIn c n w))
     unfolding sumBelow
-    sum-more = ap₂ _+_ (inv .tried) e ∙ rw (add-one k)
+    sum-more = ap₂ _+_ (inv .tried) (told .tried) ∙ rw (add-one k)
 
     bound-more : pairs + p ≤ (k + 1) * maxUnionRows
-    bound-more = omega (arith, inv .bound)
+    bound-more = omega (arith, inv .bound, fewer)
 
     within : k < length (rowsIn c n w)
     within = omega (arith, rows-length c n w)
@@ -54,7 +56,7 @@ module _ {c n : ℕ} {w numbers : List ℕ} {m pairs k : ℕ} (inv : KeptTo c n 
     subsumed-left s = record {
       count = omega (arith, inv .count);
       below = inv .below;
-      rows = inv .rows ∙ sym (keep-left (stays (rowsIn c n w)) [] (rowsIn c n w) k within (ap not (sym told ∙ s)));
+      rows = inv .rows ∙ sym (keep-left (stays (rowsIn c n w)) [] (rowsIn c n w) k within (ap not (sym (told .found) ∙ s)));
       tried = sum-more;
       bound = bound-more;
     }
@@ -69,20 +71,17 @@ module _ {c n : ℕ} {w numbers : List ℕ} {m pairs k : ℕ} (inv : KeptTo c n 
           rows = ap (rowsAt c w) t
               ∙ map-append (rowAt c w) (take m numbers) (k ∷ [])
               ∙ ap₂ (λ (r : List (List ℕ)) (l : List ℕ). r ++ (l ∷ [])) (inv .rows) (sym (rows-at c n k w more))
-              ∙ sym (keep-took (stays (rowsIn c n w)) [] (rowsIn c n w) k within (ap not (sym told ∙ s)));
+              ∙ sym (keep-took (stays (rowsIn c n w)) [] (rowsIn c n w) k within (ap not (sym (told .found) ∙ s)));
           tried = sum-more;
           bound = bound-more;
         }
 
   -- all rows have been tried
-  module _ (all : k ≡ n) where
-    pub kept-rows : Unsubsumed c n w (take m numbers)
-    unfolding minimumRows
-    kept-rows = record {
-      below = inv .below;
-      rows = inv .rows ∙ ap (keep (stays (rowsIn c n w))) (take-all k (rowsIn c n w) (omega (arith, rows-length c n w)));
-    }
-
-    pub kept-pairs : pairs ≡ pairsTried (rowsIn c n w)
-    unfolding pairsTried
-    kept-pairs = inv .tried ∙ ap (λ (i : ℕ). sumBelow i (triesAt (rowsIn c n w))) (all ∙ sym (rows-length c n w))
+  pub kept-rows : k ≡ n → KeptRows c n w numbers m pairs
+  unfolding minimumRows pairsTried
+  kept-rows all = record {
+    count = omega (arith, inv .count);
+    below = inv .below;
+    rows = inv .rows ∙ ap (keep (stays (rowsIn c n w))) (take-all k (rowsIn c n w) (omega (arith, rows-length c n w)));
+    tried = inv .tried ∙ ap (λ (i : ℕ). sumBelow i (triesAt (rowsIn c n w))) (all ∙ sym (rows-length c n w));
+  }

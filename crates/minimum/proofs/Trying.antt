@@ -1,4 +1,4 @@
--- The trying of row k of a table: what a column more says of covering, what a row more says of subsuming, and how the trying ends.
+-- The trying of row k of a table: what a column more says of covering, what a candidate more says of subsuming, and how the trying ends.
 -- Assumes nothing.
 use mathlib.Core.Path.{_≡_, sym, _∙_, ap, ap₂, subst}
 use mathlib.Core.Bool.{Bool, true, false, cond, not, _&&_, _||_}
@@ -6,9 +6,9 @@ use mathlib.Core.Logic.{⊎-elim}
 use mathlib.Core.List.{List, []}
 use Prim.Native.Nat.{ℕ, _+_, _-_, _*_, _<_, _≤_}
 use native.Mathlib.Nat.{eq-or-lt-of-le}
-use native.Mathlib.Numerals.{add-one}
 use native.Mathlib.Omega.{arith}
-use lib.ListN.{length, getD, take, drop, length-take, length-drop, length-map, List·getD-map}
+use lib.Bits.{bitAnd}
+use lib.ListN.{length, getD, take, drop, length-drop}
 use lib.Seq.{getD-take, getD-drop, length-take-le}
 use lib.Dec.{eqb, ltb}
 use borrow.Author.Tests.{lt-ltb, le-ltb, ltb-true, ltb-false}
@@ -16,14 +16,16 @@ use Rattle.definitions.specs.Word.{isFilled}
 use Rattle.definitions.specs.Image.{rowsIn}
 use Rattle.definitions.specs.MinimumUnion.{filled, covers, subsumes}
 use Rattle.definitions.proofs.Bools.{bool-cases, clash, not-so}
-use Rattle.definitions.proofs.Lists.{stands-get, stands-at, any-of, any-none, below-cases}
+use Rattle.definitions.proofs.Lists.{stands-get, stands-at, any-of, any-none}
 use Rattle.definitions.proofs.Rows.{filled-cell, covers-at}
 use Rattle.definitions.proofs.Subsumption.{subsumes-is, subsumes-self}
 use Rattle.lists.proofs.Flat.{rows-length, rows-at, row-fits, part-row}
-use Rattle.bitsets.specs.Bits.{has}
-use Rattle.minimum.specs.Trying.{isSubsumed, triesAt}
-use Rattle.patterns.specs.Marks.{MarkedFor}
-use Rattle.minimum.specs.Marks.{Candidates, NextOf, Prepared}
+use Rattle.bitsets.specs.Bits.{has, withoutLowest}
+use Rattle.bitsets.proofs.Bits.{Lowest, has-none, rest-in, rest-of}
+use Rattle.patterns.proofs.FilledRows.{filled-has}
+use Rattle.minimum.specs.Trying.{TriedRow}
+use Rattle.minimum.specs.Candidates.{Candidates, Prepared}
+use Rattle.minimum.proofs.Counting.{counted-length, count-at}
 use Rattle.minimum.proofs.Covering.{covers-next, covers-end}
 use Rattle.minimum.proofs.OtherRows.{Passed, others-all, others-before, others-after}
 
@@ -38,15 +40,10 @@ module _ (width n : ℕ) (w : List ℕ) (k : ℕ) where
   abbrev pub CoveredTo : ℕ → ℕ → Type 0
   CoveredTo j c = covers (row width n w j) (row width n w k) ≡ covers (drop c (row width n w j)) (drop c (row width n w k))
 
-  -- no row before j subsumes row k
-  abbrev pub PassedTo : ℕ → Type 0
-  PassedTo j = Passed (row width n w k) (rowsIn width n w) j
-
-  -- the trying ended when so many rows had been looked at, row k itself among them or not
-  pub record Ended (subsumed : Bool) (looked : ℕ) : Type 0 where
-    pub found : subsumed ≡ isSubsumed (rowsIn width n w) k
-    pub pairs : cond (ltb k looked) (looked - 1) looked ≡ triesAt (rowsIn width n w) k
-    pub fewer : cond (ltb k looked) (looked - 1) looked < n
+  -- the rest of the candidates: fuller rows, and all that subsume row k are among them
+  pub record Left (rest : ℕ) : Type 0 where
+    pub fuller : (i : ℕ) → has rest i ≡ true → (i < n) × (filled (row width n w k) < filled (row width n w i))
+    pub all : (i : ℕ) → i < n → subsumes (row width n w i) (row width n w k) ≡ true → has rest i ≡ true
 
 three-cases {ℓ} : {X : Type ℓ} (k j : ℕ) → (k < j → X) → (j ≡ k → X) → (j < k → X) → X
 three-cases k j f g h =
@@ -54,24 +51,21 @@ three-cases k j f g h =
 
 -- ---- the turns
 
-module _ {width n : ℕ} {w counts marks : List ℕ} {k : ℕ} (own : k < n) (ready : Prepared width n w counts marks) where
+module _ {width n : ℕ} {w counts fuller columns : List ℕ} {k : ℕ} (own : k < n) (ready : Prepared width n w counts fuller columns) where
   abbrev rows : List (List ℕ)
   rows = rowsIn width n w
 
   abbrev at : ℕ → List ℕ
   at = row width n w
 
-  pub counts-room : n ≤ length counts
-  counts-room =
-      let e = ap length (ready .counted .filled-cells) ∙ length-map rows filled ∙ rows-length width n w in
-      omega (arith, e, length-take n counts)
+  pub count-there : k < length counts
+  count-there = omega (arith, counted-length width n w counts (ready .counted))
 
-  count-at : (j : ℕ) → j < n → getD counts j 0 ≡ filled (at j)
-  unfolding filled
-  count-at j h = sym (getD-take n counts j 0 h) ∙ ap (λ (l : List ℕ). getD l j 0) (ready .counted .filled-cells) ∙ List·getD-map filled rows j []
+  count-of : (j : ℕ) → getD counts j 0 ≡ filled (at j)
+  count-of = count-at width n w counts (ready .counted)
 
   pub row-end : (j : ℕ) → j < n → j * width + width ≤ length w
-  row-end j h = omega (arith, ready .counted .fits, row-fits width n j h)
+  row-end j h = omega (arith, ready .fits, row-fits width n j h)
 
   row-long : (j : ℕ) → j < n → length (at j) ≡ width
   row-long j h =
@@ -103,71 +97,86 @@ module _ {width n : ℕ} {w counts marks : List ℕ} {k : ℕ} (own : k < n) (re
   within : k < length rows
   within = omega (arith, rows-length width n w)
 
-  -- a row that covers row k is a candidate
-  covering-held : (set at-k : ℕ) → at-k ≡ k * width → Candidates (take (at-k + width - at-k) (drop at-k w)) marks set
-      → (i : ℕ) → i < n → covers (at i) (at k) ≡ true → has set i ≡ true
-  covering-held set at-k here held i h e =
+  own-part : (at-k : ℕ) → at-k ≡ k * width → take (at-k + width - at-k) (drop at-k w) ≡ at k
+  own-part at-k here = part-row width at-k w ∙ ap (λ (x : ℕ). take width (drop x w)) here ∙ sym (rows-at width n k w own)
+
+  -- the part of the cells that is row k is as long as the columns' words are many
+  pub own-short : (at-k : ℕ) → at-k ≡ k * width → length (take (at-k + width - at-k) (drop at-k w)) ≤ length columns
+  own-short at-k here = omega (arith, ap length (own-part at-k here), row-long k own, ready .filled-rows .size)
+
+  -- at first all candidates are left
+  pub left-all : (set at-k : ℕ) → at-k ≡ k * width
+      → Candidates (take (at-k + width - at-k) (drop at-k w)) (getD fuller (getD counts k 0) 0) columns set → Left width n w k set
+  left-all set at-k here told =
       let few = ready .few in
-      let part : take (at-k + width - at-k) (drop at-k w) ≡ at k =
-      part-row width at-k w ∙ ap (λ (x : ℕ). take width (drop x w)) here ∙ sym (rows-at width n k w own) in
-      let own-held : Candidates (at k) marks set = subst (λ (r : List ℕ). Candidates r marks set) part held in
-      own-held .held i (omega arith) (λ c g some.
-      let c-in : c < width = omega (arith, row-long k own) in
-      ⊎-elim
-      (λ q. absurd (filled-cell (getD (at k) c 0) some q))
-      (λ q.
-      let e = sym (cell-at i c h c-in) ∙ q in
-      subst (λ (x : ℕ). MarkedFor marks c x i) e (ready .marked .every i c h c-in (ap isFilled e ∙ some)))
-      (covers-at (at i) (at k) e c))
+      let size = counted-length width n w counts (ready .counted) in
+      let told-k : Candidates (at k) (getD fuller (getD counts k 0) 0) columns set =
+      subst (λ (r : List ℕ). Candidates r (getD fuller (getD counts k 0) 0) columns set) (own-part at-k here) told in
+      record {
+        fuller = λ i h.
+            let o = ready .fuller-rows .only (getD counts k 0) i (told-k .among i h) in
+            (omega (arith, o .0), omega (arith, o .1, count-of i, count-of k));
+        all = λ i h e.
+            let s = subsumes-is (at i) (at k) .0 e in
+            told-k .held i (omega arith)
+            (ready .fuller-rows .held (getD counts k 0) i (omega arith) (omega (arith, s .0, count-of i, count-of k)))
+            (λ c g some.
+            let c-in : c < width = omega (arith, row-long k own) in
+            ap (λ (x : ℕ). has x i) (ready .filled-rows .marks c c-in)
+            ∙ filled-has rows c i (omega (arith, rows-length width n w))
+            ∙ ⊎-elim
+            (λ q. absurd (filled-cell (getD (at k) c 0) some q))
+            (λ q. ap isFilled q ∙ some)
+            (covers-at (at i) (at k) (s .1) c));
+      }
 
-  -- the rows before the next candidate are passed
-  pub pass-skipped : (looked set at-k j : ℕ) → at-k ≡ k * width → Candidates (take (at-k + width - at-k) (drop at-k w)) marks set
-      → NextOf set looked n j → PassedTo width n w k looked → PassedTo width n w k j
-  pass-skipped looked set at-k j here held next p i h =
-      bool-cases (ltb i looked)
-      (λ e. p i (ltb-true i looked e))
-      (λ e. not-so (subsumes (at i) (at k)) (λ q.
-      let r = next .within in
-      clash (covering-held set at-k here held i (omega arith) (subsumes-is (at i) (at k) .0 q .1)) (next .skipped i (ltb-false i looked e) h)))
+  -- the lowest of the rest is tried
+  module _ {rest j : ℕ} (left : Left width n w k rest) (low : Lowest rest j) where
+    pub next-within : j < n
+    next-within = left .fuller j (low .there) .0
 
-  -- no row before j subsumes row k
-  module _ (j : ℕ) (p : PassedTo width n w k j) where
-    pass : subsumes (at j) (at k) ≡ false → PassedTo width n w k (j + 1)
-    pass e i h = below-cases i j (rw add-one at h) (p i) (λ q. rw q e)
+    pub left-next : covers (at j) (at k) ≡ false → Left width n w k (bitAnd rest (rest - 1))
+    unfolding withoutLowest
+    left-next f = record {
+      fuller = λ i h. left .fuller i (rest-in rest i h);
+      all = λ i h e.
+          rest-of rest j i low (left .all i h e)
+          (λ q. clash (subsumes-is (at i) (at k) .0 e .1) (ap (λ (x : ℕ). covers (at x) (at k)) q ∙ f));
+    }
 
-    pub pass-fewer : j < n → getD counts j 0 ≤ getD counts k 0 → PassedTo width n w k (j + 1)
-    pass-fewer h f =
-        pass (not-so (subsumes (at j) (at k)) (λ e. let g = subsumes-is (at j) (at k) .0 e .0 in omega (arith, count-at j h, count-at k own)))
+  -- ---- the trying has ended when so many rows had been looked at, row k itself among them or not
 
-    pub pass-differs : covers (at j) (at k) ≡ false → PassedTo width n w k (j + 1)
-    pass-differs f = pass (not-so (subsumes (at j) (at k)) (λ e. clash (subsumes-is (at j) (at k) .0 e .1) f))
+  module _ {rest : ℕ} (left : Left width n w k rest) {subsumed : Bool} {looked pairs : ℕ}
+      (e : pairs ≡ cond (ltb k looked) (looked - 1) looked) where
+    -- no candidate is left
+    pub tried-none : rest ≡ 0 → subsumed ≡ false → looked ≡ n → TriedRow rows k subsumed pairs
+    tried-none none is there =
+        let l = rows-length width n w in
+        let few : pairs ≡ n - 1 = e ∙ rw (lt-ltb k looked (omega arith)) (omega arith) in
+        let passed : (i : ℕ) → i < n → subsumes (at i) (at k) ≡ false =
+        λ i g. not-so (subsumes (at i) (at k)) (λ q. clash (left .all i g q) (ap (λ (x : ℕ). has x i) none ∙ has-none i)) in
+        record {
+          found = is ∙ sym (any-none (λ s. subsumes s (at k)) rows (λ s g.
+              let i = stands-at [] s rows g in
+              ap (λ (u : List ℕ). subsumes u (at k)) (sym (i .2)) ∙ passed (i .0) (omega (arith, i .1))));
+          tried = omega (arith, few, others-all (at k) rows k within (λ i g. passed i (omega arith)));
+          fewer = omega arith;
+        }
 
-    module _ {subsumed : Bool} {looked : ℕ} where
-      -- no row is left
-      pub ended-none : n ≤ j → subsumed ≡ false → looked ≡ n → Ended width n w k subsumed looked
-      ended-none h is there =
-          let l = rows-length width n w in
-          let t : ltb k looked ≡ true = lt-ltb k looked (omega arith) in
-          record {
-            found = is ∙ sym (any-none (λ s. subsumes s (at k)) rows (λ s g.
-                let i = stands-at [] s rows g in
-                ap (λ (u : List ℕ). subsumes u (at k)) (sym (i .2)) ∙ p (i .0) (omega (arith, i .1))));
-            pairs = rw t (omega (arith, others-all (at k) rows k within (λ i g. p i (omega arith))));
-            fewer = rw t (omega arith);
-          }
-
-      -- row j subsumes row k
-      pub ended-found : j < n → getD counts k 0 < getD counts j 0 → covers (at j) (at k) ≡ true → subsumed ≡ true → looked ≡ j + 1
-          → Ended width n w k subsumed looked
-      ended-found h more e is there =
-          let l = rows-length width n w in
-          let m : filled (at k) < filled (at j) = rw (count-at j h, count-at k own) at more in
-          let u : subsumes (at j) (at k) ≡ true = subsumes-is (at j) (at k) .1 (m, e) in
-          record {
-            found = is ∙ sym (any-of (λ s. subsumes s (at k)) (at j) rows (stands-get [] rows j (omega arith)) u);
-            pairs = three-cases k j
-                (λ g. rw (lt-ltb k looked (omega arith)) (omega (arith, others-after (at k) rows k within j (omega arith) p u g)))
-                (λ g. absurd (clash u (ap (λ (i : ℕ). subsumes (at i) (at k)) g ∙ subsumes-self (at k))))
-                (λ g. rw (le-ltb k looked (omega arith)) (omega (arith, others-before (at k) rows k within j (omega arith) p u g)));
-            fewer = bool-cases (ltb k looked) (λ q. rw q (omega arith)) (λ q. rw q (let i = ltb-false k looked q in omega arith));
-          }
+    -- the lowest of the rest covers row k, and so subsumes it
+    pub tried-found : (j : ℕ) → Lowest rest j → covers (at j) (at k) ≡ true → subsumed ≡ true → looked ≡ j + 1 → TriedRow rows k subsumed pairs
+    tried-found j low f is there =
+        let l = rows-length width n w in
+        let more = left .fuller j (low .there) in
+        let h = more .0 in
+        let p : Passed (at k) rows j =
+        λ i g. not-so (subsumes (at i) (at k)) (λ q. clash (left .all i (omega arith) q) (low .below i g)) in
+        let u : subsumes (at j) (at k) ≡ true = subsumes-is (at j) (at k) .1 (more .1, f) in
+        record {
+          found = is ∙ sym (any-of (λ s. subsumes s (at k)) (at j) rows (stands-get [] rows j (omega arith)) u);
+          tried = e ∙ three-cases k j
+              (λ g. rw (lt-ltb k looked (omega arith)) (omega (arith, others-after (at k) rows k within j (omega arith) p u g)))
+              (λ g. absurd (clash u (ap (λ (i : ℕ). subsumes (at i) (at k)) g ∙ subsumes-self (at k))))
+              (λ g. rw (le-ltb k looked (omega arith)) (omega (arith, others-before (at k) rows k within j (omega arith) p u g)));
+          fewer = rw e (bool-cases (ltb k looked) (λ q. rw q (omega arith)) (λ q. rw q (let i = ltb-false k looked q in omega arith)));
+        }

@@ -1,3 +1,3 @@
 -- The trying of minimum union.
 pub mod Trying
-pub mod Marks
+pub mod Candidates

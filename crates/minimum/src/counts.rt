@@ -1,13 +1,17 @@
-// The filled cells of each row, counted once and not for each pair.
-ghost use Prim.Native.Nat.{_*_, _≤_};
-ghost use lib.ListN.{length};
-ghost use Rattle.definitions.specs.Limits.{maxColumns};
-ghost use Rattle.minimum.specs.Trying.{Counted};
+// The filled cells of each row, counted once and not for each pair, and for each number of filled cells the rows that have more.
+ghost use mathlib.Core.Path.{_≡_};
+ghost use mathlib.Core.List.{map};
+ghost use Prim.Native.Nat.{ℕ, _*_, _≤_, _<_};
+ghost use lib.ListN.{length, getD, take};
+ghost use Rattle.definitions.specs.Limits.{maxColumns, maxUnionRows};
+ghost use Rattle.definitions.specs.Image.{rowsIn};
+ghost use Rattle.definitions.specs.MinimumUnion.{filled};
+ghost use Rattle.minimum.specs.Candidates.{EqualTo, FullerThan};
 
 // Writes the filled cells of each of the first n rows over the first n counts.
 pub(crate) fn fill_counts(cells: &[u32], n: usize, width: usize, counts: &mut [u32])
     requires { ⌜ (width ≤ maxColumns) × (n * width ≤ length (now cells)) × (n ≤ length (now counts)) ⌝ }
-    ensures { λ r. ⌜ Counted width n (now (cells .entry)) (now (counts .exit)) ⌝ }
+    ensures { λ r. ⌜ take n (now (counts .exit)) ≡ map filled (rowsIn width n (now (cells .entry))) ⌝ }
 {
     let mut i = 0;
     let mut at = 0;
@@ -16,5 +20,37 @@ pub(crate) fn fill_counts(cells: &[u32], n: usize, width: usize, counts: &mut [u
         counts[i] = patterns::count_filled(&cells[at..next]);
         at = next;
         i += 1;
+    }
+}
+
+// Writes for each number the rows with this count, over words that hold no row.
+fn mark_counts(counts: &[u32], words: &mut [u64])
+    requires { ⌜ (length (now counts) ≤ maxUnionRows) × ((j : ℕ) → getD (now counts) j 0 < length (now words)) ⌝ }
+    requires { ⌜ ((k : ℕ) → getD (now words) k 0 ≡ 0) ⌝ }
+    ensures { λ r. ⌜ EqualTo (now (counts .entry)) (length (now (counts .entry))) (now (words .exit)) ⌝ }
+{
+    let mut j = 0;
+    while j < counts.len() {
+        let k = counts[j] as usize;
+        words[k] = words[k] | (1u64 << j);
+        j += 1;
+    }
+}
+
+// Writes for each number the rows with a larger count, over words that hold no row. The number falls, so that the rows with a count from
+// it on grow by those with this count.
+pub(crate) fn fill_fuller(counts: &[u32], words: &mut [u64])
+    requires { ⌜ (length (now counts) ≤ maxUnionRows) × ((j : ℕ) → getD (now counts) j 0 < length (now words)) ⌝ }
+    requires { ⌜ ((k : ℕ) → getD (now words) k 0 ≡ 0) ⌝ }
+    ensures { λ r. ⌜ FullerThan (now (counts .entry)) (now (words .exit)) ⌝ }
+{
+    mark_counts(counts, words);
+    let mut fuller = 0;
+    let mut k = words.len();
+    while 0 < k {
+        k -= 1;
+        let equal = words[k];
+        words[k] = fuller;
+        fuller = fuller | equal;
     }
 }

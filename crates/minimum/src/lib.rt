@@ -2,20 +2,16 @@
 // and are named by their numbers.
 mod candidates;
 mod counts;
-mod subsumption;
 mod trial;
 
-ghost use mathlib.Core.Path.{_≡_};
 ghost use Prim.Native.Nat.{_*_, _≤_};
-ghost use lib.ListN.{length, take};
+ghost use lib.ListN.{length};
 ghost use Rattle.definitions.specs.Limits.{maxColumns, maxUnionRows};
-ghost use Rattle.definitions.specs.Image.{rowsIn};
-ghost use Rattle.definitions.specs.MinimumUnion.{pairsTried};
-ghost use Rattle.minimum.specs.Trying.{Unsubsumed};
-ghost use Rattle.minimum.specs.Marks.{Prepared};
-use candidates::mark_rows;
+ghost use Rattle.minimum.specs.Trying.{KeptRows};
+ghost use Rattle.minimum.specs.Candidates.{Prepared};
 use counts::fill_counts;
-pub use subsumption::subsumes;
+use counts::fill_fuller;
+use tables::Table;
 use trial::try_row;
 
 // How many rows stay, and how many pairs are tried.
@@ -28,19 +24,20 @@ pub struct Kept {
 fn keep_rows(
     cells: &[u32],
     counts: &[u32],
-    marks: &[u64],
+    fuller: &[u64],
+    columns: &[u64],
     n: usize,
     width: usize,
     kept: &mut [u32],
 ) -> Kept
-    requires { ⌜ Prepared width n (now cells) (now counts) (now marks) × (n ≤ length (now kept)) ⌝ }
-    ensures { λ r. ⌜ (r .rows ≤ n) × Unsubsumed width n (now (cells .entry)) (take (r .rows) (now (kept .exit))) × (r .pairs ≡ pairsTried (rowsIn width n (now (cells .entry)))) ⌝ }
+    requires { ⌜ Prepared width n (now cells) (now counts) (now fuller) (now columns) × (n ≤ length (now kept)) ⌝ }
+    ensures { λ r. ⌜ KeptRows width n (now (cells .entry)) (now (kept .exit)) (r .rows) (r .pairs) ⌝ }
 {
     let mut rows = 0;
     let mut pairs = 0;
     let mut k = 0;
     while k < n {
-        let tried = try_row(cells, counts, marks, n, width, k);
+        let tried = try_row(cells, counts, fuller, columns, n, width, k);
         pairs += tried.pairs;
         if tried.subsumed {
             k += 1;
@@ -55,12 +52,16 @@ fn keep_rows(
 
 // Writes the numbers of those of the first n rows that none of these subsumes, ascending.
 pub fn minimum_rows(cells: &[u32], n: usize, width: usize, kept: &mut [u32]) -> Kept
-    requires { ⌜ (n ≤ maxUnionRows) × (width ≤ maxColumns) × (n * width ≤ length (now cells)) × (n ≤ length (now kept)) ⌝ }
-    ensures { λ r. ⌜ (r .rows ≤ n) × Unsubsumed width n (now (cells .entry)) (take (r .rows) (now (kept .exit))) × (r .pairs ≡ pairsTried (rowsIn width n (now (cells .entry)))) ⌝ }
+    requires { ⌜ (n ≤ maxUnionRows) × (width ≤ maxColumns) × (n * width ≤ length (now cells))
+        × (n ≤ length (now kept)) ⌝ }
+    ensures { λ r. ⌜ KeptRows width n (now (cells .entry)) (now (kept .exit)) (r .rows) (r .pairs) ⌝ }
 {
-    let mut counts = [0u32; 64];
-    let mut marks = [0u64; 256];
+    let mut counts = [0u32; Table::MAX_ROWS];
+    let mut fuller = [0u64; Table::MAX_COLUMNS + 1];
+    let mut columns = [0u64; Table::MAX_COLUMNS];
     fill_counts(cells, n, width, &mut counts);
-    mark_rows(cells, n, width, &mut marks);
-    keep_rows(cells, &counts, &marks, n, width, kept)
+    let counted = &counts[..n];
+    fill_fuller(counted, &mut fuller);
+    patterns::fill_columns(cells, n, width, &mut columns);
+    keep_rows(cells, counted, &fuller, &columns, n, width, kept)
 }

@@ -1,13 +1,23 @@
 // The trying of one row with the other rows in ascending position, until one subsumes it.
 use crate::candidates;
-use crate::subsumption::covered;
 ghost use mathlib.Core.Path.{_≡_};
-ghost use mathlib.Core.Bool.{cond};
+ghost use mathlib.Core.Bool.{cond, not, _||_};
 ghost use Prim.Native.Nat.{_-_, _<_};
-ghost use lib.Dec.{ltb};
+ghost use lib.Dec.{eqb, ltb};
+ghost use Rattle.definitions.specs.Word.{isFilled};
 ghost use Rattle.definitions.specs.Image.{rowsIn};
-ghost use Rattle.minimum.specs.Trying.{isSubsumed, triesAt};
-ghost use Rattle.minimum.specs.Marks.{Prepared};
+ghost use Rattle.minimum.specs.Trying.{TriedRow};
+ghost use Rattle.minimum.specs.Candidates.{Prepared};
+
+// A cell y of the emptier row is empty, or equals the other row's cell x.
+fn covered(x: u32, y: u32) -> bool
+    ensures { λ r. ⌜ r ≡ (not (isFilled y) || eqb x y) ⌝ }
+{
+    if y == 0 {
+        return true;
+    }
+    x == y
+}
 
 // How many of the first rows are others than row k.
 fn others(first: usize, k: usize) -> usize
@@ -25,42 +35,43 @@ pub struct Tried {
     pub pairs: usize,
 }
 
-// Tries row k. A row that is no candidate is passed unseen, and one with no more filled cells is not compared cell by cell.
+// Tries row k. A row that is no candidate counts as tried, but no cell of it is compared. A candidate has more filled cells, and so
+// subsumes row k if all columns are covered.
 pub(crate) fn try_row(
     cells: &[u32],
     counts: &[u32],
-    marks: &[u64],
+    fuller: &[u64],
+    columns: &[u64],
     n: usize,
     width: usize,
     k: usize,
 ) -> Tried
-    requires { ⌜ (k < n) × Prepared width n (now cells) (now counts) (now marks) ⌝ }
-    ensures { λ r. ⌜ (r .subsumed ≡ isSubsumed (rowsIn width n (now (cells .entry))) k) × (r .pairs ≡ triesAt (rowsIn width n (now (cells .entry))) k) × (r .pairs < n) ⌝ }
+    requires { ⌜ (k < n) × Prepared width n (now cells) (now counts) (now fuller) (now columns) ⌝ }
+    ensures { λ r. ⌜ TriedRow (rowsIn width n (now (cells .entry))) k (r .subsumed) (r .pairs) ⌝ }
 {
     let own = k * width;
     let own_end = own + width;
-    let mine = counts[k];
-    let set = candidates::for_row(&cells[own..own_end], marks);
+    let count = counts[k] as usize;
+    let mut rest = candidates::for_row(&cells[own..own_end], fuller[count], columns);
     let mut subsumed = false;
-    let mut looked = 0;
-    'rows: while looked < n {
-        let j = candidates::next(set, looked, n);
-        looked = j + 1;
-        if mine < counts[j] {
-            let at = j * width;
-            let mut c = 0;
-            while c < width {
-                if !covered(cells[at + c], cells[own + c]) {
-                    continue 'rows;
-                }
-                c += 1;
+    let mut looked = n;
+    'rows: while rest != 0 {
+        let j = u64::trailing_zeros(rest) as usize;
+        let at = j * width;
+        let mut c = 0;
+        loop {
+            if c == width {
+                subsumed = true;
+                looked = j + 1;
+                break 'rows;
             }
-            subsumed = true;
-            break 'rows;
+            if !covered(cells[at + c], cells[own + c]) {
+                break;
+            }
+            c += 1;
         }
+        rest = rest & (rest - 1);
     }
-    Tried {
-        subsumed,
-        pairs: others(looked, k),
-    }
+    let pairs = others(looked, k);
+    Tried { subsumed, pairs }
 }

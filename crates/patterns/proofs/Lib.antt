@@ -1,6 +1,8 @@
--- Laws of digits, of filled patterns and their ones, of marks, and of tables that are tested entry by entry.
+-- Laws of digits, of filled patterns and their ones, of rows as parts of words, of the columns' words, and of tables that are tested entry
+-- by entry.
 pub mod Table
 pub mod Bytes
 pub mod Digits
 pub mod Patterns
-pub mod Marking
+pub mod Parts
+pub mod FilledRows

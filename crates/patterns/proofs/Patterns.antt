@@ -1,10 +1,9 @@
--- Laws of filled cells and patterns: a pattern's bound, its next bit, that its ones are the filled cells, and the walks that count and that go
--- over rows. Assumes nothing.
+-- Laws of filled cells and patterns: a pattern's bound, its next bit, that its ones are the filled cells, and the walk that counts. Assumes nothing.
 use mathlib.Core.Path.{_≡_, refl, sym, _∙_, ap, ap₂, subst}
 use mathlib.Core.Bool.{cond}
 use mathlib.Core.List.{List, [], _∷_, map, map-append, flatten}
 use Prim.Native.Nat.{ℕ, _+_, _*_, _/_, _%_, _^_, _<_, _≤_}
-use native.Mathlib.Nat.{lt-of-lt-of-le, add-mul, one-mul}
+use native.Mathlib.Nat.{lt-of-lt-of-le}
 use native.Mathlib.Numerals.{add-one}
 use native.Mathlib.Omega.{arith}
 use lib.ListN.{length, getD, take, drop, drop-of-length-le, length-map}
@@ -17,7 +16,7 @@ use Rattle.definitions.specs.Word.{isFilled}
 use Rattle.definitions.specs.Image.{rowsIn}
 use Rattle.definitions.specs.MinimumUnion.{filled}
 use Rattle.definitions.specs.SetList.{bits}
-use Rattle.lists.proofs.Flat.{row-fits, words-rows}
+use Rattle.lists.proofs.Flat.{words-rows}
 use Rattle.lists.proofs.Walks.{next}
 use Rattle.patterns.specs.Pattern.{patternOf}
 use Rattle.patterns.proofs.Digits.{bit-small, bits-small, mark-next}
@@ -69,12 +68,3 @@ unfolding filled
 count-ends c n total w h inv =
     let none : filled (drop (n * c) (take (n * c) w)) ≡ 0 = ap filled (drop-of-length-le (take (n * c) w) {i = n * c} (omega (arith, length-take-le (n * c) w h))) in
     omega (arith, none, inv, ap filled (words-rows c n w))
-
--- ---- a walk over n rows of c words, at the row i
-
-module _ (c n i at : ℕ) (w : List ℕ) (more : i < n) (here : at ≡ i * c) where
-  pub row-ends : n * c ≤ length w → at + c ≤ length w
-  row-ends h = omega (arith, row-fits c n i more)
-
-  pub next-row : at + c ≡ (i + 1) * c
-  next-row = omega (arith, add-mul i 1 c, one-mul c)

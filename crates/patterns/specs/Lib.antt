@@ -1,3 +1,3 @@
--- The filled patterns of rows, and the marks of their cells.
+-- The filled patterns of rows, and the columns' words.
 pub mod Pattern
-pub mod Marks
+pub mod Columns

@@ -1,4 +1,4 @@
-// The filled pattern of a row, the ones of a pattern, the count of filled cells, and the marks of the filled cells of rows.
+// The filled pattern of a row, the ones of a pattern, the count of filled cells, and the rows that are filled in each column.
 ghost use mathlib.Core.Path.{_≡_};
 ghost use mathlib.Core.Bool.{cond};
 ghost use mathlib.Core.List.{flatten};
@@ -10,12 +10,11 @@ ghost use Rattle.definitions.specs.Image.{rowsIn};
 ghost use Rattle.definitions.specs.MinimumUnion.{filled};
 ghost use Rattle.patterns.specs.Pattern.{patternOf};
 
-mod marks;
+mod columns;
 mod ones;
 
-pub use marks::blank;
-pub use marks::mark_row;
-pub use marks::slot;
+pub use columns::blank;
+pub use columns::fill_columns;
 pub use ones::count_ones;
 
 // 1 for a filled cell, 0 for the empty cell.

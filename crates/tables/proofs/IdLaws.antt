@@ -20,8 +20,8 @@ use Rattle.definitions.proofs.Questions.{passed-is}
 use Rattle.definitions.proofs.Images.{passed-ids}
 use Rattle.images.proofs.Parts.{columns-part}
 use Rattle.lists.proofs.Pastes.{paste-front}
-use Rattle.tables.specs.Places.{withNew}
-use Rattle.tables.proofs.Smaller.{new-distinct, new-ascending}
+use Rattle.tables.specs.Places.{maxIds, withNew, BothIds}
+use Rattle.tables.proofs.Smaller.{distinct-count, new-distinct, new-ascending}
 
 -- ---- the loop: i ids are looked at, and those that are new stand after the first m
 
@@ -95,25 +95,28 @@ columns-of image k ok e =
       few = omega (arith, p .few-columns);
     }
 
+-- the ids of the first image and the new ones of the second are the ids of both, each once
+both-ids : (a b : List ℕ) → imageNumber maxRows a ≡ 0 → imageNumber maxRows b ≡ 0 → (all : List ℕ) → all ≡ withNew (imageIds a) (imageIds b) → BothIds a b all
+unfolding unionIds
+both-ids a b oa ob all e = record {
+  differ = ap (distinct eqb) e
+      ∙ new-distinct (imageIds a) (imageIds b) (passed-is maxRows a .0 oa .distinct-ids) (passed-is maxRows b .0 ob .distinct-ids);
+  union = ap (ascending compareWord) e ∙ new-ascending (imageIds a) (imageIds b);
+}
+
 -- the ids of two images, as the code writes them
 pub both-added : (all x y a b p q : List ℕ) (k m r : ℕ) → Columns k a p → Columns m b q → x ≡ paste all 0 (map idOf p) (length p)
-    → take r y ≡ withNew (take k x) (map idOf q) → r ≤ k + length q → (take r y ≡ withNew (imageIds a) (imageIds b)) × (r ≤ 32)
-both-added all x y a b p q k m r u v ex ey few =
+    → take r y ≡ withNew (take k x) (map idOf q) → r ≤ k + length q → imageNumber maxRows a ≡ 0 → imageNumber maxRows b ≡ 0
+    → BothIds a b (take r y) × (r ≤ maxIds)
+both-added all x y a b p q k m r u v ex ey few oa ob =
     let f = u .few in
     let g = v .few in
     let z = v .size in (
-      ey ∙ ap₂ withNew (paste-front all (map idOf p) x k (length-map p idOf ∙ u .size) (ex ∙ ap (paste all 0 (map idOf p)) (u .size)) ∙ u .ids) (v .ids),
+      both-ids a b oa ob (take r y)
+          (ey ∙ ap₂ withNew (paste-front all (map idOf p) x k (length-map p idOf ∙ u .size) (ex ∙ ap (paste all 0 (map idOf p)) (u .size)) ∙ u .ids) (v .ids)),
       omega arith,
     )
 
--- ---- the distinct ids of two accepted images, in order
-
-module _ (a b : List ℕ) (oa : imageNumber maxRows a ≡ 0) (ob : imageNumber maxRows b ≡ 0) (all : List ℕ)
-    (e : all ≡ withNew (imageIds a) (imageIds b)) where
-  pub both-distinct : distinct eqb all ≡ true
-  both-distinct =
-      ap (distinct eqb) e ∙ new-distinct (imageIds a) (imageIds b) (passed-is maxRows a .0 oa .distinct-ids) (passed-is maxRows b .0 ob .distinct-ids)
-
-  pub both-ascending : ascending compareWord all ≡ unionIds a b
-  unfolding unionIds
-  both-ascending = ap (ascending compareWord) e ∙ new-ascending (imageIds a) (imageIds b)
+-- a table's columns are as many as the ids
+pub both-count : (a b all : List ℕ) → BothIds a b all → length (unionIds a b) ≡ length all
+both-count a b all d = ap length (sym (d .union)) ∙ distinct-count all (d .differ)

@@ -166,6 +166,11 @@ places-within union ids rising has p h =
     let s = smaller-stands (m .0) union rising (has (m .0) (m .1)) in
     omega (arith, s .0, m .2)
 
+-- places are counted in distinct ids as they are among the ids in order
+pub places-ordered : (all ids : List ℕ) → distinct eqb all ≡ true → placesIn all ids ≡ placesIn (ascending compareWord all) ids
+places-ordered all ids differ =
+    map-ext (λ id. smallerThan id all) (λ id. smallerThan id (ascending compareWord all)) ids (λ id s. sym (smaller-ascending id all differ))
+
 -- ---- distinct ids, each written at the number of smaller ones, are ascending
 
 own-cells : (f : ℕ → ℕ) (l : List ℕ) → ((x : ℕ) → Stands x l → f x ≡ x) → map f l ≡ l
@@ -187,9 +192,7 @@ module _ (all cells cur : List ℕ) (differ : distinct eqb all ≡ true) (room :
   pub ids-sorted : (take (length all) cur ≡ sorted) × (length all ≡ length sorted)
   ids-sorted =
       let count : length sorted ≡ length all = distinct-count all differ in
-      let places : placesIn all all ≡ placesIn sorted all =
-      map-ext (λ id. smallerThan id all) (λ id. smallerThan id sorted) all (λ id s. sym (smaller-ascending id all differ)) in
       let goal : cur ≡ paste cells 0 (widened sorted all all) (length sorted) =
-      written ∙ ap (λ (l : List ℕ). scattered cells 0 l all) places
+      written ∙ ap (λ (l : List ℕ). scattered cells 0 l all) (places-ordered all all differ)
       ∙ scatter-widened sorted all all cells 0 (is-rising words all) differ (λ id s. ascending-has words id all s) refl (omega arith) (λ k h. empty (0 + k)) in
       (paste-front cells sorted cur (length all) count (goal ∙ ap₂ (λ (l : List ℕ) (n : ℕ). paste cells 0 l n) sorted-own count), sym count)

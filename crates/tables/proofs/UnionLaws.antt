@@ -10,7 +10,7 @@ use lib.Seq.{paste, length-paste, take-paste, take-all, length-take-le}
 use Rattle.definitions.specs.Limits.{maxColumns, maxRows, maxUnionRows}
 use Rattle.definitions.specs.Image.{rowCount, imageIds, rowsIn}
 use Rattle.definitions.specs.Ascending.{ascending}
-use Rattle.definitions.specs.OuterUnion.{compareWord, compareRow, widenedRows, unionIds, unionRows}
+use Rattle.definitions.specs.OuterUnion.{compareWord, compareRow, widenedRows, unionIds}
 use Rattle.definitions.specs.Questions.{imageNumber}
 use Rattle.definitions.specs.Statements.{Stands, Rising}
 use Rattle.definitions.proofs.Ascending.{stands-join, is-rising, ascending-only, ascending-has}
@@ -21,8 +21,9 @@ use Rattle.lists.proofs.Pastes.{paste-front}
 use Rattle.lists.proofs.Flat.{Wide, rows-wide, rows-local, rows-append, flat-rows-all, pasted-rows}
 use Rattle.rows.specs.Numbers.{rowAt, rowsAt, Ordered}
 use Rattle.tables.specs.declared.Table.{Table}
-use Rattle.tables.specs.Table.{bothRows, Holds}
+use Rattle.tables.specs.Table.{Found, NewTable, CellsOf, Holds}
 use Rattle.tables.specs.Places.{Covers}
+use Rattle.tables.proofs.IdLaws.{both-count}
 use Rattle.tables.proofs.Scatter.{paste-after}
 use Rattle.tables.proofs.WidenLaws.{widened-wide, widened-words}
 
@@ -125,31 +126,20 @@ cells-ordered w n m wide order cells cur h k o e =
     let count : length rs ≡ m = sym (ap length (o .rows)) ∙ length-map (take m order) (rowAt w wide) ∙ length-take-le m order k in
     pasted-rows w m rs cells cur even count (e ∙ ap (λ (l : List (List ℕ)). paste cells 0 (flatten l) (m * w)) (o .rows))
 
--- a new table with the columns of the union, and rows in it
-module _ (a b ids firsts : List ℕ) (count : ℕ) (t : Table)
-    (ei : take count ids ≡ unionIds a b) (ec : count ≡ length (unionIds a b)) (few : count ≤ maxColumns)
-    (ti : t .ids ≡ firsts) (tc : t .columns ≡ count) (f : (take count firsts ≡ take count ids) × (length firsts ≡ maxColumns)) where
-  holds : (rs : List (List ℕ)) → rowsIn count (t .rows) (t .cells) ≡ rs → t .rows ≤ maxUnionRows → length (t .cells) ≡ maxUnionRows * maxColumns
-      → Holds t (unionIds a b) rs
-  holds rs er fr lc = record {
-    columns = tc ∙ ec;
-    ids = ap₂ take tc ti ∙ f .0 ∙ ei;
-    rows-are = ap (λ (k : ℕ). rowsIn k (t .rows) (t .cells)) tc ∙ er;
-    few-columns = omega arith;
-    few-rows = fr;
-    id-words = ap length ti ∙ f .1;
-    cell-words = lc;
-  }
-
-  pub widened-holds : (rowsIn count (t .rows) (t .cells) ≡ widenedRows (take count ids) a ++ widenedRows (take count ids) b)
-      × (t .rows ≤ maxUnionRows) × (length (t .cells) ≡ maxUnionRows * maxColumns) → Holds t (unionIds a b) (bothRows a b)
-  widened-holds r = holds (bothRows a b) (r .0 ∙ ap (λ (u : List ℕ). widenedRows u a ++ widenedRows u b) ei) (r .1) (r .2)
-
-  pub union-holds : (rowsIn count (t .rows) (t .cells) ≡ ascending compareRow (widenedRows (take count ids) a ++ widenedRows (take count ids) b))
-      × (t .rows ≤ maxUnionRows) × (length (t .cells) ≡ maxUnionRows * maxColumns) → Holds t (unionIds a b) (unionRows a b)
-  unfolding unionRows
-  union-holds r =
-      holds (unionRows a b) (r .0 ∙ ap (λ (u : List ℕ). ascending compareRow (widenedRows u a ++ widenedRows u b)) ei) (r .1) (r .2)
+-- a new table with the ids of both images, and rows in it
+pub filled-holds : {a b all : List ℕ} {rs : List (List ℕ)} {t : Table} → Found a b all → (new : Table) → NewTable all new
+    → t .ids ≡ new .ids → t .columns ≡ new .columns → CellsOf rs (length all) (t .rows) (t .cells) → Holds t (unionIds a b) rs
+filled-holds {a} {b} {all} {rs} {t} f new made ti tc cells =
+    let wide : t .columns ≡ length all = tc ∙ made .columns in
+    record {
+      columns = wide ∙ sym (both-count a b all (f .ids));
+      ids = ap₂ take wide ti ∙ made .ids ∙ f .ids .union;
+      rows-are = ap (λ (k : ℕ). rowsIn k (t .rows) (t .cells)) wide ∙ cells .rows-are;
+      few-columns = omega (arith, f .few);
+      few-rows = cells .few-rows;
+      id-words = ap length ti ∙ made .id-words;
+      cell-words = cells .cell-words;
+    }
 
 -- the columns of a union are those of each image, in order
 pub union-covers : (a b union : List ℕ) → union ≡ unionIds a b → Covers union a × Covers union b

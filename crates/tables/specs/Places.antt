@@ -1,17 +1,33 @@
 -- The places of ids in a union, and the cells of a row written at such places.
-use mathlib.Core.Bool.{not}
+use mathlib.Core.Path.{_≡_}
+use mathlib.Core.Bool.{true, not}
 use mathlib.Core.List.{List, [], _∷_, _++_, map}
 use Prim.Native.Nat.{ℕ, _+_}
 use lib.Dec.{eqb, ltb}
 use lib.ListN.{length, set}
-use Rattle.definitions.specs.Lists.{any, keep}
+use Rattle.definitions.specs.Limits.{maxColumns}
+use Rattle.definitions.specs.Lists.{any, keep, distinct}
 use Rattle.definitions.specs.Image.{imageIds}
-use Rattle.definitions.specs.OuterUnion.{compareWord}
+use Rattle.definitions.specs.Ascending.{ascending}
+use Rattle.definitions.specs.OuterUnion.{compareWord, unionIds}
 use Rattle.definitions.specs.Statements.{Stands, Rising}
 
 -- ids, and after them those of a second list that are none of them
 abbrev pub withNew : List ℕ → List ℕ → List ℕ
 withNew ids more = ids ++ keep (λ id. not (any (eqb id) ids)) more
+
+-- two images have at most so many ids
+abbrev pub maxIds : ℕ
+maxIds = maxColumns + maxColumns
+
+-- ids in ascending order
+abbrev pub inOrder : List ℕ → List ℕ
+inOrder ids = ascending compareWord ids
+
+-- the ids of two images, each once
+pub record BothIds (a b all : List ℕ) : Type 0 where
+  pub differ : distinct eqb all ≡ true
+  pub union : inOrder all ≡ unionIds a b
 
 -- how many words of a list are smaller
 abbrev pub smallerThan : ℕ → List ℕ → ℕ

@@ -1,16 +1,39 @@
--- What a table in work holds.
+-- What a table in work holds, and what is written into it.
 use mathlib.Core.Path.{_≡_}
 use mathlib.Core.List.{List, _++_}
 use Prim.Native.Nat.{ℕ, _*_, _≤_}
-use lib.ListN.{length, take}
-use Rattle.definitions.specs.Limits.{maxColumns, maxUnionRows}
+use lib.ListN.{length, getD, take}
+use Rattle.definitions.specs.Limits.{maxColumns, maxRows, maxUnionRows}
 use Rattle.definitions.specs.Image.{rowsIn}
 use Rattle.definitions.specs.OuterUnion.{widenedRows, unionIds}
+use Rattle.definitions.specs.Questions.{imageNumber}
 use Rattle.tables.specs.declared.Table.{Table}
+use Rattle.tables.specs.Places.{inOrder, BothIds}
 
 -- the rows of two images, each with a cell for every column of the union, one after the other
 abbrev pub bothRows : List ℕ → List ℕ → List (List ℕ)
 bothRows a b = widenedRows (unionIds a b) a ++ widenedRows (unionIds a b) b
+
+-- an accepted pair, and the ids of both images, each once: a table has room for them
+pub record Found (a b all : List ℕ) : Type 0 where
+  pub first : imageNumber maxRows a ≡ 0
+  pub second : imageNumber maxRows b ≡ 0
+  pub ids : BothIds a b all
+  pub few : length all ≤ maxColumns
+
+-- a table with these ids in order, no rows and empty cells
+pub record NewTable (all : List ℕ) (t : Table) : Type 0 where
+  pub ids : take (length all) (t .ids) ≡ inOrder all
+  pub id-words : length (t .ids) ≡ maxColumns
+  pub columns : t .columns ≡ length all
+  pub rows : t .rows ≡ 0
+  pub empty : (k : ℕ) → getD (t .cells) k 0 ≡ 0
+
+-- the cells of a table begin with n rows of so many cells, and these are the rows
+pub record CellsOf (rows : List (List ℕ)) (width n : ℕ) (cells : List ℕ) : Type 0 where
+  pub rows-are : rowsIn width n cells ≡ rows
+  pub few-rows : n ≤ maxUnionRows
+  pub cell-words : length cells ≡ maxUnionRows * maxColumns
 
 -- the table with these column ids and rows
 pub record Holds (t : Table) (union : List ℕ) (rows : List (List ℕ)) : Type 0 where

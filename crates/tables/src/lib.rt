@@ -1,21 +1,26 @@
 // The table in work, and the outer union of two accepted images in it.
 ghost use mathlib.Core.Path.{_≡_};
-ghost use Prim.Native.Nat.{ℕ};
-ghost use lib.ListN.{getD};
+ghost use mathlib.Core.Bool.{true};
+ghost use Prim.Native.Nat.{_≤_};
+ghost use lib.Dec.{eqb};
+ghost use lib.ListN.{length};
+ghost use Rattle.definitions.specs.Limits.{maxColumns};
+ghost use Rattle.definitions.specs.Lists.{distinct};
+ghost use Rattle.tables.specs.Table.{NewTable};
 
 mod columns;
 mod union;
 mod widen;
 
-pub use columns::union_ids;
-pub use union::first_words;
+pub use columns::both_ids;
+use columns::sort_ids;
 pub use union::union_rows;
 pub use union::widen_both;
 
 // A table in work: its cells row by row, its column ids and both counts.
 pub struct Table {
-    pub cells: [u32; 1024],
-    pub ids: [u32; 16],
+    pub cells: [u32; Table::MAX_CELLS],
+    pub ids: [u32; Table::MAX_COLUMNS],
     pub rows: usize,
     pub columns: usize,
 }
@@ -26,27 +31,24 @@ impl Table {
 
     pub const MAX_COLUMNS: usize = 16;
 
+    pub const MAX_CELLS: usize = Self::MAX_ROWS * Self::MAX_COLUMNS;
+
     // The empty table.
     pub const EMPTY: Table = Table {
-        cells: [0; 1024],
-        ids: [0; 16],
+        cells: [0; Self::MAX_CELLS],
+        ids: [0; Self::MAX_COLUMNS],
         rows: 0,
         columns: 0,
     };
 
-    // A table with columns, no rows and empty cells.
-    pub fn new(ids: [u32; 16], columns: usize) -> Table
-        ensures { λ r. ⌜ (r .ids ≡ ids) × (r .columns ≡ columns) × (r .rows ≡ 0) × ((k : ℕ) → getD (r .cells) k 0 ≡ 0) ⌝ }
+    // A table whose columns have these ids, in order; it has no rows, and empty cells.
+    pub fn new(all: &[u32]) -> Table
+        requires { ⌜ (length (now all) ≤ maxColumns) × (distinct eqb (now all) ≡ true) ⌝ }
+        ensures { λ r. ⌜ NewTable (now (all .entry)) r ⌝ }
     {
         let mut t = Self::EMPTY;
-        t.ids = ids;
-        t.columns = columns;
+        sort_ids(all, &mut t.ids);
+        t.columns = all.len();
         t
     }
-}
-
-// Column ids, before it is known that they fit a table.
-pub struct Ids {
-    pub ids: [u32; 32],
-    pub count: usize,
 }

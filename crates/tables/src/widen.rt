@@ -1,22 +1,27 @@
 // The rows of an image, widened to the columns of a union.
 ghost use mathlib.Core.Path.{_≡_};
+ghost use mathlib.Core.Bool.{true};
 ghost use mathlib.Core.List.{map, flatten};
 ghost use Prim.Native.Nat.{ℕ, _+_, _*_, _≤_, _<_};
+ghost use lib.Dec.{eqb};
 ghost use lib.ListN.{length, getD};
 ghost use lib.Seq.{paste};
 ghost use Rattle.definitions.specs.Limits.{maxColumns, maxRows};
+ghost use Rattle.definitions.specs.Lists.{distinct};
 ghost use Rattle.definitions.specs.Word.{idOf};
 ghost use Rattle.definitions.specs.Image.{imageIds, rowCount};
 ghost use Rattle.definitions.specs.OuterUnion.{widenedRows};
 ghost use Rattle.definitions.specs.Statements.{Stands};
 ghost use Rattle.definitions.specs.Questions.{imageNumber};
-ghost use Rattle.tables.specs.Places.{placesIn, scattered, Covers};
+ghost use Rattle.tables.specs.Places.{maxIds, placesIn, scattered, inOrder, Covers};
+use crate::Table;
 use crate::columns::smaller;
 
-// Where each column word's id stands in the union.
+// Where each column word's id stands among the union's ids, once these are in order.
 pub fn column_places(columns: &[u32], union: &[u32], places: &mut [usize])
-    requires { ⌜ (length (now columns) ≤ length (now places)) × (length (now union) ≤ 32) ⌝ }
-    ensures { λ r. ⌜ now (places .exit) ≡ paste (now (places .entry)) 0 (placesIn (now (union .entry)) (map idOf (now (columns .entry)))) (length (now (columns .entry))) ⌝ }
+    requires { ⌜ (length (now columns) ≤ length (now places)) × (length (now union) ≤ maxIds) ⌝ }
+    ensures { λ r. ⌜ now (places .exit) ≡ paste (now (places .entry)) 0
+        (placesIn (now (union .entry)) (map idOf (now (columns .entry)))) (length (now (columns .entry))) ⌝ }
 {
     let mut j = 0;
     while j < columns.len() {
@@ -27,7 +32,8 @@ pub fn column_places(columns: &[u32], union: &[u32], places: &mut [usize])
 
 // Writes each cell of a row at its place from at.
 pub fn widen_row(row: &[u32], places: &[usize], cells: &mut [u32], at: usize)
-    requires { ⌜ (length (now row) ≤ length (now places)) × ((p : ℕ) → Stands p (now places) → at + p < length (now cells)) ⌝ }
+    requires { ⌜ (length (now row) ≤ length (now places))
+        × ((p : ℕ) → Stands p (now places) → at + p < length (now cells)) ⌝ }
     ensures { λ r. ⌜ now (cells .exit) ≡ scattered (now (cells .entry)) at (now (places .entry)) (now (row .entry)) ⌝ }
 {
     let mut j = 0;
@@ -38,15 +44,20 @@ pub fn widen_row(row: &[u32], places: &[usize], cells: &mut [u32], at: usize)
 }
 
 // Writes the rows of an accepted image, each cell at its place, over the cells from at.
-pub fn widen_rows(image: &[u32], union: &[u32], places: &[usize], cells: &mut [u32], at: usize)
-    requires { ⌜ (imageNumber maxRows (now image) ≡ 0) × Covers (now union) (now image) × (now places ≡ placesIn (now union) (imageIds (now image))) ⌝ }
-    requires { ⌜ (at + rowCount (now image) * length (now union) ≤ length (now cells)) × ((k : ℕ) → at ≤ k → getD (now cells) k 0 ≡ 0) ⌝ }
-    ensures { λ r. ⌜ now (cells .exit) ≡ paste (now (cells .entry)) at (flatten (widenedRows (now (union .entry)) (now (image .entry)))) (rowCount (now (image .entry)) * length (now (union .entry))) ⌝ }
+pub fn widen_rows(image: &[u32], all: &[u32], places: &[usize], cells: &mut [u32], at: usize)
+    requires { ⌜ (imageNumber maxRows (now image) ≡ 0) × (distinct eqb (now all) ≡ true)
+        × Covers (inOrder (now all)) (now image)
+        × (now places ≡ placesIn (inOrder (now all)) (imageIds (now image))) ⌝ }
+    requires { ⌜ (at + rowCount (now image) * length (inOrder (now all)) ≤ length (now cells))
+        × ((k : ℕ) → at ≤ k → getD (now cells) k 0 ≡ 0) ⌝ }
+    ensures { λ r. ⌜ now (cells .exit) ≡ paste (now (cells .entry)) at
+        (flatten (widenedRows (inOrder (now (all .entry))) (now (image .entry))))
+        (rowCount (now (image .entry)) * length (inOrder (now (all .entry)))) ⌝ }
 {
     let header = image[0];
     let columns = words::columns(header) as usize;
     let rows = words::rows(header) as usize;
-    let width = union.len();
+    let width = all.len();
     let mut i = 0;
     let mut from = 1 + columns;
     let mut to = at;
@@ -59,15 +70,20 @@ pub fn widen_rows(image: &[u32], union: &[u32], places: &[usize], cells: &mut [u
     }
 }
 
-// Writes the rows of an accepted image, widened to the columns of the union, over the empty cells from at.
-pub fn widen_table(image: &[u32], union: &[u32], cells: &mut [u32], at: usize)
-    requires { ⌜ (imageNumber maxRows (now image) ≡ 0) × (length (now union) ≤ maxColumns) × Covers (now union) (now image) ⌝ }
-    requires { ⌜ (at + rowCount (now image) * length (now union) ≤ length (now cells)) × ((k : ℕ) → at ≤ k → getD (now cells) k 0 ≡ 0) ⌝ }
-    ensures { λ r. ⌜ now (cells .exit) ≡ paste (now (cells .entry)) at (flatten (widenedRows (now (union .entry)) (now (image .entry)))) (rowCount (now (image .entry)) * length (now (union .entry))) ⌝ }
+// Writes the rows of an accepted image, widened to columns with these ids in order, over the empty cells from at.
+pub fn widen_table(image: &[u32], all: &[u32], cells: &mut [u32], at: usize)
+    requires { ⌜ (imageNumber maxRows (now image) ≡ 0) × (distinct eqb (now all) ≡ true)
+        × Covers (inOrder (now all)) (now image)
+        × (length (now all) ≤ maxColumns) ⌝ }
+    requires { ⌜ (at + rowCount (now image) * length (inOrder (now all)) ≤ length (now cells))
+        × ((k : ℕ) → at ≤ k → getD (now cells) k 0 ≡ 0) ⌝ }
+    ensures { λ r. ⌜ now (cells .exit) ≡ paste (now (cells .entry)) at
+        (flatten (widenedRows (inOrder (now (all .entry))) (now (image .entry))))
+        (rowCount (now (image .entry)) * length (inOrder (now (all .entry)))) ⌝ }
 {
-    let mut places = [0usize; 16];
+    let mut places = [0usize; Table::MAX_COLUMNS];
     let columns = words::columns(image[0]) as usize;
     let end = 1 + columns;
-    column_places(&image[1..end], union, &mut places);
-    widen_rows(image, union, &places[..columns], cells, at);
+    column_places(&image[1..end], all, &mut places);
+    widen_rows(image, all, &places[..columns], cells, at);
 }

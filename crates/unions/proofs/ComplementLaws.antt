@@ -19,14 +19,13 @@ use Rattle.lists.proofs.Flat.{rows-length}
 use Rattle.rows.specs.Numbers.{rowsAt, Below, Ordered}
 use Rattle.rows.proofs.Numbers.{below-fit}
 use Rattle.cliques.specs.Graph.{Graph, AllSets}
-use Rattle.fusing.specs.Columns.{ColumnsOf}
+use Rattle.patterns.specs.Columns.{ColumnsOf}
 use Rattle.fusing.specs.Graph.{GraphOf}
 use Rattle.fusing.specs.Records.{placesIn, listOf}
 use Rattle.fusing.proofs.Fused.{sets-many, sets-few, sets-listed, ordered-fused, places-known, places-below, list-written}
 use Rattle.tables.specs.declared.Table.{Table}
-use Rattle.tables.specs.Table.{Holds}
-use Rattle.unions.specs.Pair.{Found}
-use Rattle.unions.specs.Fused.{SetsOf, ListedTable, FusedOf, Roomy, fusedOutcome, FusedInto}
+use Rattle.tables.specs.Table.{Found, Holds}
+use Rattle.unions.specs.Fused.{SetsOf, WorkTable, ListedTable, FusedOf, Roomy, fusedOutcome, FusedInto, FusedUnion}
 use Rattle.unions.proofs.Pairs.{refuses, passes, pair-accepted, asked-no, asked-yes}
 use Rattle.unions.proofs.Numbered.{Named, Written, named-words, named-written, named-values}
 use Rattle.unions.proofs.Kept.{ids-there, ids-small, cells-there}
@@ -131,48 +130,72 @@ module _ {ids cells : List ℕ} {n : ℕ} {columns list joins order places : Lis
           (whole-list list ∙ k .work .listed) (k .found .placed) s;
     }
 
--- ---- the call
+-- ---- the questions from 9 on
 
--- T in a table in work, and its sets
-module _ {a b all : List ℕ} {columns : ℕ} (f : Found a b all columns) {t : Table} (h : Holds t (unionIds a b) (unionRows a b))
-    {list : List ℕ} {count : ℕ} (s : SetsOf (rowsIn (t .columns) (t .rows) (t .cells)) list count) where
+-- a table in work, and its sets
+module _ {all : List ℕ} {width : ℕ} {cells : List ℕ} {n : ℕ} (w : WorkTable all width cells n)
+    {list : List ℕ} {count : ℕ} (s : SetsOf (rowsIn width n cells) list count) where
   abbrev ids : List ℕ
-  ids = take (t .columns) (t .ids)
+  ids = take width all
 
-  width : length ids ≡ t .columns
-  width = length-take-le (t .columns) (t .ids) (ids-there h)
+  in-use : length ids ≡ width
+  in-use = length-take-le width all (w .within-ids)
 
   -- what `fuse_sets` asks for
-  pub work-listed : count ≤ maxSets → count ≤ length list → (marks : List ℕ) → ColumnsOf (rowsIn (t .columns) (t .rows) (t .cells)) (t .columns) marks
-      → ListedTable ids (t .cells) (t .rows) marks (take count list)
+  pub work-listed : count ≤ maxSets → count ≤ length list → (marks : List ℕ) → ColumnsOf (rowsIn width n cells) width marks
+      → ListedTable ids cells n marks (take count list)
   work-listed few room marks g = record {
-    few-columns = omega (arith, width, h .few-columns);
-    small-ids = λ j l. let n = width in let e = getD-take (t .columns) (t .ids) j 0 (omega arith) in omega (arith, ids-small f h j (omega arith));
-    within = subst (λ (w : ℕ). t .rows * w ≤ length (t .cells)) (sym width) (cells-there h);
-    marks = subst (λ (w : ℕ). ColumnsOf (rowsIn w (t .rows) (t .cells)) w marks) (sym width) g;
+    few-columns = omega (arith, in-use, w .few-columns);
+    small-ids = λ j l. let e = in-use in let f = getD-take width all j 0 (omega arith) in omega (arith, w .small-ids j (omega arith));
+    within = subst (λ (c : ℕ). n * c ≤ length cells) (sym in-use) (w .within);
+    marks = subst (λ (c : ℕ). ColumnsOf (rowsIn c n cells) c marks) (sym in-use) g;
     few-sets = omega (arith, length-take-le count list room);
-    listed = s .listed few ∙ ap (λ (w : ℕ). map bits (unionSets (rowsIn w (t .rows) (t .cells)))) (sym width);
+    listed = s .listed few ∙ ap (λ (c : ℕ). map bits (unionSets (rowsIn c n cells))) (sym in-use);
   }
 
   module _ (table sets : List ℕ) where
     -- more sets than are listed
-    pub many-promised : maxSets < count → Promised a b table sets (refused 9 2) table sets
-    unfolding complementOutcome
-    many-promised g =
-        let many = subst (λ (l : List (List ℕ)). maxSets < length (unionSets l)) (h .rows-are) (s .many g) in
-        promised a b table sets (refused 9 2) table sets
-        (asked-no (length (unionSets (unionRows a b))) maxSets 8 _ many ∙ pair-accepted f _) refl refl
+    pub many-fused : maxSets < count → FusedUnion ids (rowsIn width n cells) (refused 9 2) table table sets sets
+    many-fused g = record {
+      answers = asked-no (length (unionSets (rowsIn width n cells))) maxSets 8 _ (s .many g);
+      writes = refl;
+      lists = refl;
+    }
 
-    -- what `fuse_sets` ensures is what is left of the call's promise
-    pub fused-promised : count ≤ maxSets → (says : Outcome) (tableAfter setsAfter : List ℕ)
-        → FusedInto ids (rowsIn (length ids) (t .rows) (t .cells)) says table tableAfter sets setsAfter → Promised a b table sets says tableAfter setsAfter
-    unfolding complementOutcome fusedImage
-    fused-promised few says tableAfter setsAfter into =
-        let rows : rowsIn (length ids) (t .rows) (t .cells) ≡ unionRows a b = ap (λ (w : ℕ). rowsIn w (t .rows) (t .cells)) width ∙ h .rows-are in
-        let g : FusedInto (unionIds a b) (unionRows a b) says table tableAfter sets setsAfter =
-        subst (λ (u : List ℕ). FusedInto u (unionRows a b) says table tableAfter sets setsAfter) (h .ids)
-        (subst (λ (l : List (List ℕ)). FusedInto ids l says table tableAfter sets setsAfter) rows into) in
-        let e = ap (λ (l : List (List ℕ)). length (unionSets l)) (sym (h .rows-are)) ∙ s .few few in
-        let fit : length (unionSets (unionRows a b)) ≤ maxSets = omega arith in
-        promised a b table sets says tableAfter setsAfter
-        (g .answers ∙ asked-yes (length (unionSets (unionRows a b))) maxSets 9 _ fit ∙ pair-accepted f _) (g .writes) (g .lists)
+    -- what `fuse_sets` ensures
+    pub few-fused : count ≤ maxSets → {says : Outcome} {tableAfter setsAfter : List ℕ}
+        → FusedInto ids (rowsIn (length ids) n cells) says table tableAfter sets setsAfter
+        → FusedUnion ids (rowsIn width n cells) says table tableAfter sets setsAfter
+    few-fused few {says} {tableAfter} {setsAfter} into =
+        let g : FusedInto ids (rowsIn width n cells) says table tableAfter sets setsAfter =
+        subst (λ (c : ℕ). FusedInto ids (rowsIn c n cells) says table tableAfter sets setsAfter) in-use into in
+        let e = s .few few in
+        record {
+          answers = g .answers ∙ asked-yes (length (unionSets (rowsIn width n cells))) maxSets 9 _ (omega arith);
+          writes = g .writes;
+          lists = g .lists;
+        }
+
+-- ---- the call
+
+-- T in a table in work
+module _ {a b all : List ℕ} (f : Found a b all) {t : Table} (h : Holds t (unionIds a b) (unionRows a b)) where
+  pub work-table : WorkTable (t .ids) (t .columns) (t .cells) (t .rows)
+  work-table = record {
+    few-columns = h .few-columns;
+    within-ids = ids-there h;
+    small-ids = ids-small f h;
+    few-rows = h .few-rows;
+    within = cells-there h;
+  }
+
+  -- what `fuse_table` ensures is what is left of the call's promise
+  pub union-promised : (table sets : List ℕ) {says : Outcome} {tableAfter setsAfter : List ℕ}
+      → FusedUnion (take (t .columns) (t .ids)) (rowsIn (t .columns) (t .rows) (t .cells)) says table tableAfter sets setsAfter
+      → Promised a b table sets says tableAfter setsAfter
+  unfolding complementOutcome fusedImage
+  union-promised table sets {says} {tableAfter} {setsAfter} into =
+      let g : FusedUnion (unionIds a b) (unionRows a b) says table tableAfter sets setsAfter =
+      subst (λ (u : List ℕ). FusedUnion u (unionRows a b) says table tableAfter sets setsAfter) (h .ids)
+      (subst (λ (l : List (List ℕ)). FusedUnion (take (t .columns) (t .ids)) l says table tableAfter sets setsAfter) (h .rows-are) into) in
+      promised a b table sets says tableAfter setsAfter (g .answers ∙ pair-accepted f _) (g .writes) (g .lists)

@@ -9,7 +9,8 @@ use Rattle.definitions.specs.MinimumUnion.{filled}
 use Rattle.definitions.specs.Answer.{Outcome, done, refused, afterwards}
 use Rattle.definitions.specs.Calls.{pairNumber, tableRoom}
 use Rattle.unions.specs.declared.questions.Checks.{Checks}
-use Rattle.unions.specs.Pair.{Found, Checked}
+use Rattle.tables.specs.Table.{Found}
+use Rattle.unions.specs.Pair.{Checked}
 use Rattle.unions.proofs.Pairs.{pair-refused, pair-accepted, asked-no, asked-yes}
 use Rattle.unions.proofs.Numbered.{Named, Written, named-words, named-written, named-values}
 
@@ -18,14 +19,14 @@ abbrev Told : (says outcome : Outcome) (image found after : List ℕ) → Type 0
 Told says outcome image found after = (says ≡ outcome) × (after ≡ afterwards outcome image found)
 
 -- the pair is refused
-pub refused-pair : (a b : List ℕ) (r : Checks) → Checked a b r → (rest : Outcome) (image found : List ℕ) → (r .number ≡ 0 → ⊥)
+pub refused-pair : (a b : List ℕ) {all : List ℕ} (r : Checks) → Checked a b all r → (rest : Outcome) (image found : List ℕ) → (r .number ≡ 0 → ⊥)
     → Told (refused (r .number) (r .table)) (pairNumber a b rest) image found found
-refused-pair a b r c rest image found h =
-    let e = pair-refused a b r c rest h in
+refused-pair a b {all} r c rest image found h =
+    let e = pair-refused a b all r c rest h in
     (e, ap (λ (o : Outcome). afterwards o image found) e)
 
 -- the pair is accepted, the rows rs of the result are named, and its answer has more values than their counts
-module _ {a b all : List ℕ} {columns : ℕ} (f : Found a b all columns) {u : List ℕ} {rs : List (List ℕ)} {ids cells order : List ℕ} {n m : ℕ}
+module _ {a b all : List ℕ} (f : Found a b all) {u : List ℕ} {rs : List (List ℕ)} {ids cells order : List ℕ} {n m : ℕ}
     (k : Named u rs ids cells order n m) (more found : List ℕ) where
   abbrev image : List ℕ
   image = imageOf u rs

@@ -11,9 +11,8 @@ use Rattle.definitions.specs.MinimumUnion.{minimumRows}
 use Rattle.rows.specs.Numbers.{rowsAt, Below, Ordered}
 use Rattle.rows.proofs.Numbers.{below-fit}
 use Rattle.tables.specs.declared.Table.{Table}
-use Rattle.tables.specs.Table.{Holds, bothRows}
-use Rattle.minimum.specs.Trying.{Unsubsumed}
-use Rattle.unions.specs.Pair.{Found}
+use Rattle.tables.specs.Table.{bothRows, Found, Holds}
+use Rattle.minimum.specs.Trying.{KeptRows}
 use Rattle.unions.proofs.Results.{small-at}
 use Rattle.unions.proofs.Numbered.{Named}
 
@@ -24,7 +23,7 @@ module _ {u : List ℕ} {rows : List (List ℕ)} {t : Table} (h : Holds t u rows
   pub cells-there : t .rows * t .columns ≤ length (t .cells)
   cells-there = let f = mul-le-mul (h .few-rows) (h .few-columns) in omega (arith, h .cell-words)
 
-module _ {a b all : List ℕ} {columns : ℕ} (f : Found a b all columns) {rows : List (List ℕ)} {t : Table} (h : Holds t (unionIds a b) rows) where
+module _ {a b all : List ℕ} (f : Found a b all) {rows : List (List ℕ)} {t : Table} (h : Holds t (unionIds a b) rows) where
   pub ids-small : (k : ℕ) → k < t .columns → getD (t .ids) k 0 < 2 ^ 16
   ids-small = small-at a b (t .ids) (t .columns) (h .ids) (ids-there h)
 
@@ -42,15 +41,14 @@ module _ {a b all : List ℕ} {columns : ℕ} (f : Found a b all columns) {rows 
     rows = e;
   }
 
-module _ {a b all : List ℕ} {columns : ℕ} (f : Found a b all columns) {t : Table} (m : ℕ) (order : List ℕ) (few : m ≤ t .rows)
-    (within : m ≤ length order) where
+module _ {a b all : List ℕ} (f : Found a b all) {t : Table} (m : ℕ) (order : List ℕ) (within : m ≤ length order) where
   -- the distinct widened rows, ascending, are T
-  pub outer-named : Holds t (unionIds a b) (bothRows a b) → Ordered (t .columns) (t .rows) (t .cells) (take m order)
+  pub outer-named : m ≤ t .rows → Holds t (unionIds a b) (bothRows a b) → Ordered (t .columns) (t .rows) (t .cells) (take m order)
       → Named (unionIds a b) (unionRows a b) (t .ids) (t .cells) order (t .columns) m
   unfolding unionRows
-  outer-named h o = named f h m order (unionRows a b) few within (o .below) (o .rows ∙ ap (ascending compareRow) (h .rows-are))
+  outer-named few h o = named f h m order (unionRows a b) few within (o .below) (o .rows ∙ ap (ascending compareRow) (h .rows-are))
 
   -- the rows of T that none subsumes are the minimum union
-  pub minimum-named : Holds t (unionIds a b) (unionRows a b) → Unsubsumed (t .columns) (t .rows) (t .cells) (take m order)
+  pub minimum-named : Holds t (unionIds a b) (unionRows a b) → {pairs : ℕ} → KeptRows (t .columns) (t .rows) (t .cells) order m pairs
       → Named (unionIds a b) (minimumRows (unionRows a b)) (t .ids) (t .cells) order (t .columns) m
-  minimum-named h u = named f h m order (minimumRows (unionRows a b)) few within (u .below) (u .rows ∙ ap minimumRows (h .rows-are))
+  minimum-named h u = named f h m order (minimumRows (unionRows a b)) (u .count) within (u .below) (u .rows ∙ ap minimumRows (h .rows-are))

@@ -6,6 +6,7 @@ use Prim.Native.Nat.{ℕ, zero, suc, _≤_, _<_}
 use native.Mathlib.Omega.{arith}
 use lib.Dec.{leb}
 use lib.ListN.{length, take}
+use lib.Seq.{length-take-le}
 use borrow.Author.Tests.{le-leb, lt-leb}
 use Rattle.definitions.specs.Limits.{maxColumns, maxRows}
 use Rattle.definitions.specs.OuterUnion.{unionIds}
@@ -13,7 +14,10 @@ use Rattle.definitions.specs.Questions.{imageNumber}
 use Rattle.definitions.specs.Answer.{Outcome, refused, unless, no}
 use Rattle.definitions.specs.Calls.{pairNumber}
 use Rattle.unions.specs.declared.questions.Checks.{Checks}
-use Rattle.unions.specs.Pair.{Found, Checked}
+use Rattle.tables.specs.Places.{BothIds}
+use Rattle.tables.specs.Table.{Found}
+use Rattle.tables.proofs.IdLaws.{both-count}
+use Rattle.unions.specs.Pair.{Checked}
 
 -- a number other than 0 refuses, whatever would follow
 pub refuses : (n table : ℕ) (x : Outcome) → (n ≡ 0 → ⊥) → unless n table x ≡ refused n table
@@ -34,48 +38,57 @@ pub asked-yes : (x y n : ℕ) (rest : Outcome) → x ≤ y → rest ≡ unless (
 asked-yes x y n rest h = sym (ap (λ (q : Bool). unless (no q n) 2 rest) (le-leb x y h))
 
 -- an accepted pair goes on
-pub pair-accepted : {a b ids : List ℕ} {count : ℕ} → Found a b ids count → (rest : Outcome) → rest ≡ pairNumber a b rest
+pub pair-accepted : {a b all : List ℕ} → Found a b all → (rest : Outcome) → rest ≡ pairNumber a b rest
 unfolding pairNumber
-pair-accepted {a} {b} f rest =
-    let few : length (unionIds a b) ≤ maxColumns = omega (arith, f .counted, f .few) in
+pair-accepted {a} {b} {all} f rest =
+    let few : length (unionIds a b) ≤ maxColumns = omega (arith, both-count a b all (f .ids), f .few) in
     asked-yes (length (unionIds a b)) maxColumns 8 rest few
     ∙ sym (passes (imageNumber maxRows a) 0 _ (f .first) ∙ passes (imageNumber maxRows b) 1 _ (f .second))
 
-module _ (a b : List ℕ) (r : Checks) where
-  pub pair-refused : Checked a b r → (rest : Outcome) → (r .number ≡ 0 → ⊥) → refused (r .number) (r .table) ≡ pairNumber a b rest
+module _ (a b all : List ℕ) (r : Checks) where
+  pub pair-refused : Checked a b all r → (rest : Outcome) → (r .number ≡ 0 → ⊥) → refused (r .number) (r .table) ≡ pairNumber a b rest
   pair-refused c rest h = sym (c .says rest ∙ refuses (r .number) (r .table) rest h)
 
   -- ---- the returns of `check_pair`
 
-  pub no-first : r .number ≡ imageNumber maxRows a → r .table ≡ 0 → (r .number ≡ 0 → ⊥) → Checked a b r
+  pub no-first : r .number ≡ imageNumber maxRows a → r .table ≡ 0 → (r .number ≡ 0 → ⊥) → Checked a b all r
   unfolding pairNumber
   no-first e t h = record {
     says = λ rest. refuses-as (imageNumber maxRows a) 0 (r .number) (r .table) _ rest e t h;
+    few = λ z. absurd (h z);
     accepted = λ z. absurd (h z);
   }
 
   module _ (ok : imageNumber maxRows a ≡ 0) where
-    pub no-second : r .number ≡ imageNumber maxRows b → r .table ≡ 1 → (r .number ≡ 0 → ⊥) → Checked a b r
+    pub no-second : r .number ≡ imageNumber maxRows b → r .table ≡ 1 → (r .number ≡ 0 → ⊥) → Checked a b all r
     unfolding pairNumber
     no-second e t h = record {
       says = λ rest. passes (imageNumber maxRows a) 0 _ ok ∙ refuses-as (imageNumber maxRows b) 1 (r .number) (r .table) _ rest e t h;
+      few = λ z. absurd (h z);
       accepted = λ z. absurd (h z);
     }
 
-    module _ (ok2 : imageNumber maxRows b ≡ 0)
-        (ids : (take (r .found .count) (r .found .ids) ≡ unionIds a b) × (r .found .count ≡ length (unionIds a b))) where
-      pub no-columns : r .number ≡ 8 → r .table ≡ 2 → maxColumns < r .found .count → Checked a b r
+    module _ (ok2 : imageNumber maxRows b ≡ 0) (ids : BothIds a b (take (r .columns) all)) (within : r .columns ≤ length all) where
+      counted : length (unionIds a b) ≡ r .columns
+      counted = both-count a b (take (r .columns) all) ids ∙ length-take-le (r .columns) all within
+
+      pub no-columns : r .number ≡ 8 → r .table ≡ 2 → maxColumns < r .columns → Checked a b all r
       unfolding pairNumber
       no-columns e t h =
-          let many : maxColumns < length (unionIds a b) = omega (arith, ids .1) in
+          let many : maxColumns < length (unionIds a b) = omega (arith, counted) in
           record {
             says = λ rest. passes (imageNumber maxRows a) 0 _ ok ∙ passes (imageNumber maxRows b) 1 _ ok2
                 ∙ sym (asked-no (length (unionIds a b)) maxColumns 7 rest many) ∙ ap₂ (λ (k u : ℕ). unless k u rest) (sym e) (sym t);
+            few = λ z. absurd (omega arith);
             accepted = λ z. absurd (omega arith);
           }
 
-      pub yes : r .number ≡ 0 → r .found .count ≤ maxColumns → Checked a b r
+      pub yes : r .number ≡ 0 → r .columns ≤ maxColumns → Checked a b all r
       yes e h =
-          let found : Found a b (r .found .ids) (r .found .count) =
-          record { first = ok; second = ok2; columns = ids .0; counted = ids .1; few = h } in
-          record { says = λ rest. sym (pair-accepted found rest) ∙ sym (passes (r .number) (r .table) rest e); accepted = λ z. found }
+          let found : Found a b (take (r .columns) all) =
+          record { first = ok; second = ok2; ids = ids; few = omega (arith, length-take-le (r .columns) all within) } in
+          record {
+            says = λ rest. sym (pair-accepted found rest) ∙ sym (passes (r .number) (r .table) rest e);
+            few = λ z. h;
+            accepted = λ z. found;
+          }

@@ -4,7 +4,7 @@ use mathlib.Core.List.{List, [], _∷_, map, flatten}
 use Prim.Native.Nat.{ℕ, _*_, _^_, _≤_, _<_}
 use lib.Dec.{leb}
 use lib.ListN.{length, getD, take}
-use Rattle.definitions.specs.Limits.{maxColumns, maxSets}
+use Rattle.definitions.specs.Limits.{maxColumns, maxUnionRows, maxSets}
 use Rattle.definitions.specs.Image.{imageOf, rowsIn}
 use Rattle.definitions.specs.MinimumUnion.{filled}
 use Rattle.definitions.specs.ComplementUnion.{unionSets, fusedRows}
@@ -12,7 +12,7 @@ use Rattle.definitions.specs.SetList.{bits, fusedPlace, setList}
 use Rattle.definitions.specs.Answer.{Outcome, done, unless, no, afterwards}
 use Rattle.definitions.specs.Calls.{tableRoom}
 use Rattle.rows.specs.Numbers.{rowsAt, Fit}
-use Rattle.fusing.specs.Columns.{ColumnsOf}
+use Rattle.patterns.specs.Columns.{ColumnsOf}
 
 -- r counts the sets where there are at most 1,024 of them, and the list begins with them
 pub record SetsOf (rows : List (List ℕ)) (list : List ℕ) (r : ℕ) : Type 0 where
@@ -20,7 +20,15 @@ pub record SetsOf (rows : List (List ℕ)) (list : List ℕ) (r : ℕ) : Type 0 
   pub few : r ≤ maxSets → length (unionSets rows) ≡ r
   pub listed : r ≤ maxSets → take r list ≡ map bits (unionSets rows)
 
--- the ids and cells of a table in work with n rows, the filled rows of each column, and the list of its sets
+-- the ids and cells of a table in work with so many columns and n rows
+pub record WorkTable (ids : List ℕ) (width : ℕ) (cells : List ℕ) (n : ℕ) : Type 0 where
+  pub few-columns : width ≤ maxColumns
+  pub within-ids : width ≤ length ids
+  pub small-ids : (k : ℕ) → k < width → getD ids k 0 < 2 ^ 16
+  pub few-rows : n ≤ maxUnionRows
+  pub within : n * width ≤ length cells
+
+-- the ids in use and the cells of a table in work with n rows, the filled rows of each column, and the list of its sets
 pub record ListedTable (ids cells : List ℕ) (n : ℕ) (columns list : List ℕ) : Type 0 where
   pub few-columns : length ids ≤ maxColumns
   pub small-ids : (k : ℕ) → k < length ids → getD ids k 0 < 2 ^ 16
@@ -50,8 +58,19 @@ fusedOutcome ids rows room setRoom =
     (done (length (fusedRows rows) ∷ length (imageOf ids (fusedRows rows)) ∷ filled (flatten (fusedRows rows))
     ∷ length (unionSets rows) ∷ length (setList rows) ∷ [])))
 
--- a call that says this has left both buffers as its answer tells
-pub record FusedInto (ids : List ℕ) (rows : List (List ℕ)) (says : Outcome) (table tableAfter sets setsAfter : List ℕ) : Type 0 where
-  pub answers : says ≡ fusedOutcome ids rows (length table) (length sets)
+-- what is said is the outcome, and both buffers are left as it tells
+pub record FusedBy (outcome : Outcome) (ids : List ℕ) (rows : List (List ℕ)) (says : Outcome) (table tableAfter sets setsAfter : List ℕ) : Type 0 where
+  pub answers : says ≡ outcome
   pub writes : tableAfter ≡ afterwards says (imageOf ids (fusedRows rows)) table
   pub lists : setsAfter ≡ afterwards says (setList rows) sets
+
+-- for the questions 10 and 11
+abbrev pub FusedInto : List ℕ → List (List ℕ) → Outcome → List ℕ → List ℕ → List ℕ → List ℕ → Type 0
+FusedInto ids rows says table tableAfter sets setsAfter =
+    FusedBy (fusedOutcome ids rows (length table) (length sets)) ids rows says table tableAfter sets setsAfter
+
+-- for the questions from 9 on
+abbrev pub FusedUnion : List ℕ → List (List ℕ) → Outcome → List ℕ → List ℕ → List ℕ → List ℕ → Type 0
+FusedUnion ids rows says table tableAfter sets setsAfter =
+    FusedBy (unless (no (leb (length (unionSets rows)) maxSets) 9) 2 (fusedOutcome ids rows (length table) (length sets)))
+    ids rows says table tableAfter sets setsAfter

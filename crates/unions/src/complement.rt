@@ -10,22 +10,22 @@ ghost use Rattle.definitions.specs.SetList.{bits, setList};
 ghost use Rattle.definitions.specs.OuterUnion.{unionRows};
 ghost use Rattle.definitions.specs.Answer.{complementSays, afterwards};
 ghost use Rattle.definitions.specs.Calls.{fusedImage, complementOutcome};
-ghost use Rattle.fusing.specs.Columns.{ColumnsOf};
-ghost use Rattle.unions.specs.Fused.{SetsOf, ListedTable, FusedOf, Roomy, FusedInto};
+ghost use Rattle.patterns.specs.Columns.{ColumnsOf};
+ghost use Rattle.unions.specs.Fused.{SetsOf, WorkTable, ListedTable, FusedOf, Roomy, FusedInto, FusedUnion};
 ghost use Rattle.unions.specs.Demand3.{Fused};
 use crate::image::write_table;
 use crate::questions::check_pair;
 use definitions::ComplementAnswer;
 use tables::Table;
-use tables::first_words;
 use tables::union_rows;
 
 // Lists the maximal sets of the first n rows; how many they are, at most 1,025. Each column's word holds the rows that are filled there.
 pub fn list_sets(cells: &[u32], n: usize, width: usize, columns: &[u64], list: &mut [u64]) -> usize
-    requires { ⌜ (n ≤ maxUnionRows) × (n * width ≤ length (now cells)) × ColumnsOf (rowsIn width n (now cells)) width (now columns) × (suc maxSets ≤ length (now list)) ⌝ }
+    requires { ⌜ (n ≤ maxUnionRows) × (n * width ≤ length (now cells))
+        × ColumnsOf (rowsIn width n (now cells)) width (now columns) × (suc maxSets ≤ length (now list)) ⌝ }
     ensures { λ r. ⌜ SetsOf (rowsIn width n (now (cells .entry))) (now (list .exit)) r ⌝ }
 {
-    let mut neighbours = [0u64; 64];
+    let mut neighbours = [0u64; Table::MAX_ROWS];
     fusing::fill_neighbours(cells, n, width, columns, &mut neighbours);
     cliques::find_sets(&neighbours, n, list)
 }
@@ -42,9 +42,13 @@ pub fn fuse_rows(
     order: &mut [u32],
     places: &mut [u32],
 ) -> usize
-    requires { ⌜ (n * width ≤ length (now cells)) × ColumnsOf (rowsIn width n (now cells)) width (now columns) × (length (now list) ≤ maxSets) × (now list ≡ map bits (unionSets (rowsIn width n (now cells)))) ⌝ }
-    requires { ⌜ (length (now list) * width ≤ length (now joined)) × (length (now list) ≤ length (now order)) × (length (now list) ≤ length (now places)) ⌝ }
-    ensures { λ r. ⌜ (r ≤ length (now (list .entry))) × (r ≤ length (now (order .exit))) × FusedOf (rowsIn width n (now (cells .entry))) width (now (joined .exit)) (take r (now (order .exit))) (take (length (now (list .entry))) (now (places .exit))) ⌝ }
+    requires { ⌜ (n * width ≤ length (now cells)) × ColumnsOf (rowsIn width n (now cells)) width (now columns)
+        × (length (now list) ≤ maxSets) × (now list ≡ map bits (unionSets (rowsIn width n (now cells)))) ⌝ }
+    requires { ⌜ (length (now list) * width ≤ length (now joined)) × (length (now list) ≤ length (now order))
+        × (length (now list) ≤ length (now places)) ⌝ }
+    ensures { λ r. ⌜ (r ≤ length (now (list .entry))) × (r ≤ length (now (order .exit)))
+        × FusedOf (rowsIn width n (now (cells .entry))) width (now (joined .exit)) (take r (now (order .exit)))
+        (take (length (now (list .entry))) (now (places .exit))) ⌝ }
 {
     let count = list.len();
     fusing::join_sets(cells, n, width, columns, list, count, joined);
@@ -80,8 +84,10 @@ pub fn write_fused(
     sets: &mut [u32],
 ) -> ComplementAnswer
     requires { ⌜ ListedTable (now ids) (now cells) n (now columns) (now list) ⌝ }
-    requires { ⌜ (length (now list) * length (now ids) ≤ length (now joined)) × (length (now list) ≤ length (now order)) × (length (now list) ≤ length (now places)) ⌝ }
-    ensures { λ r. ⌜ FusedInto (now (ids .entry)) (rowsIn (length (now (ids .entry))) n (now (cells .entry))) (complementSays r) (now (table .entry)) (now (table .exit)) (now (sets .entry)) (now (sets .exit)) ⌝ }
+    requires { ⌜ (length (now list) * length (now ids) ≤ length (now joined))
+        × (length (now list) ≤ length (now order)) × (length (now list) ≤ length (now places)) ⌝ }
+    ensures { λ r. ⌜ FusedInto (now (ids .entry)) (rowsIn (length (now (ids .entry))) n (now (cells .entry)))
+        (complementSays r) (now (table .entry)) (now (table .exit)) (now (sets .entry)) (now (sets .exit)) ⌝ }
 {
     let width = ids.len();
     let rows = fuse_rows(cells, n, width, columns, list, joined, order, places);
@@ -113,9 +119,10 @@ pub fn fuse_few(
     sets: &mut [u32],
 ) -> ComplementAnswer
     requires { ⌜ ListedTable (now ids) (now cells) n (now columns) (now list) × (length (now list) ≤ 64) ⌝ }
-    ensures { λ r. ⌜ FusedInto (now (ids .entry)) (rowsIn (length (now (ids .entry))) n (now (cells .entry))) (complementSays r) (now (table .entry)) (now (table .exit)) (now (sets .entry)) (now (sets .exit)) ⌝ }
+    ensures { λ r. ⌜ FusedInto (now (ids .entry)) (rowsIn (length (now (ids .entry))) n (now (cells .entry)))
+        (complementSays r) (now (table .entry)) (now (table .exit)) (now (sets .entry)) (now (sets .exit)) ⌝ }
 {
-    let mut joined = [0u32; 1024];
+    let mut joined = [0u32; 64 * Table::MAX_COLUMNS];
     let mut order = [0u32; 64];
     let mut places = [0u32; 64];
     write_fused(
@@ -143,9 +150,10 @@ pub fn fuse_some(
     sets: &mut [u32],
 ) -> ComplementAnswer
     requires { ⌜ ListedTable (now ids) (now cells) n (now columns) (now list) × (length (now list) ≤ 256) ⌝ }
-    ensures { λ r. ⌜ FusedInto (now (ids .entry)) (rowsIn (length (now (ids .entry))) n (now (cells .entry))) (complementSays r) (now (table .entry)) (now (table .exit)) (now (sets .entry)) (now (sets .exit)) ⌝ }
+    ensures { λ r. ⌜ FusedInto (now (ids .entry)) (rowsIn (length (now (ids .entry))) n (now (cells .entry)))
+        (complementSays r) (now (table .entry)) (now (table .exit)) (now (sets .entry)) (now (sets .exit)) ⌝ }
 {
-    let mut joined = [0u32; 4096];
+    let mut joined = [0u32; 256 * Table::MAX_COLUMNS];
     let mut order = [0u32; 256];
     let mut places = [0u32; 256];
     write_fused(
@@ -173,9 +181,10 @@ pub fn fuse_many(
     sets: &mut [u32],
 ) -> ComplementAnswer
     requires { ⌜ ListedTable (now ids) (now cells) n (now columns) (now list) ⌝ }
-    ensures { λ r. ⌜ FusedInto (now (ids .entry)) (rowsIn (length (now (ids .entry))) n (now (cells .entry))) (complementSays r) (now (table .entry)) (now (table .exit)) (now (sets .entry)) (now (sets .exit)) ⌝ }
+    ensures { λ r. ⌜ FusedInto (now (ids .entry)) (rowsIn (length (now (ids .entry))) n (now (cells .entry)))
+        (complementSays r) (now (table .entry)) (now (table .exit)) (now (sets .entry)) (now (sets .exit)) ⌝ }
 {
-    let mut joined = [0u32; 16384];
+    let mut joined = [0u32; 1024 * Table::MAX_COLUMNS];
     let mut order = [0u32; 1024];
     let mut places = [0u32; 1024];
     write_fused(
@@ -204,7 +213,8 @@ pub fn fuse_sets(
     sets: &mut [u32],
 ) -> ComplementAnswer
     requires { ⌜ ListedTable (now ids) (now cells) n (now columns) (now list) ⌝ }
-    ensures { λ r. ⌜ FusedInto (now (ids .entry)) (rowsIn (length (now (ids .entry))) n (now (cells .entry))) (complementSays r) (now (table .entry)) (now (table .exit)) (now (sets .entry)) (now (sets .exit)) ⌝ }
+    ensures { λ r. ⌜ FusedInto (now (ids .entry)) (rowsIn (length (now (ids .entry))) n (now (cells .entry)))
+        (complementSays r) (now (table .entry)) (now (table .exit)) (now (sets .entry)) (now (sets .exit)) ⌝ }
 {
     if list.len() <= 64 {
         return fuse_few(ids, cells, n, columns, list, table, sets);
@@ -213,6 +223,33 @@ pub fn fuse_sets(
         return fuse_some(ids, cells, n, columns, list, table, sets);
     }
     fuse_many(ids, cells, n, columns, list, table, sets)
+}
+
+// The questions from 9 on, and what they leave to write, for the first n rows of a table in work and the first ids, a column each.
+pub fn fuse_table<'a>(
+    ids: &'a [u32],
+    width: usize,
+    cells: &'a [u32],
+    n: usize,
+    table: &mut [u32],
+    sets: &mut [u32],
+) -> ComplementAnswer
+    requires { ⌜ WorkTable (now ids) width (now cells) n ⌝ }
+    ensures { λ r. ⌜ FusedUnion (take width (now (ids .entry))) (rowsIn width n (now (cells .entry))) (complementSays r)
+        (now (table .entry)) (now (table .exit)) (now (sets .entry)) (now (sets .exit)) ⌝ }
+{
+    let mut columns = [0u64; Table::MAX_COLUMNS];
+    patterns::fill_columns(cells, n, width, &mut columns);
+    let mut list = [0u64; 1025];
+    let count = list_sets(cells, n, width, &columns, &mut list);
+    if 1024 < count {
+        return ComplementAnswer::Refused {
+            number: 9,
+            table: 2,
+        };
+    }
+    let all = &list[..count];
+    fuse_sets(&ids[..width], cells, n, &columns, all, table, sets)
 }
 
 // A call that isn't refused meets demand 3.
@@ -227,7 +264,8 @@ pub fn complement_union(
     ensures lists { λ r. ⌜ now (sets .exit) ≡ afterwards (complementOutcome (now (a .entry)) (now (b .entry)) (length (now (table .entry))) (length (now (sets .entry)))) (setList (unionRows (now (a .entry)) (now (b .entry)))) (now (sets .entry)) ⌝ }
     ensures demand { λ r. ⌜ Fused (complementSays r) (now (a .entry)) (now (b .entry)) (now (table .exit)) (now (sets .exit)) ⌝ }
 {
-    let checks = check_pair(a, b);
+    let mut all = [0u32; 2 * Table::MAX_COLUMNS];
+    let checks = check_pair(a, b, &mut all);
     let number = checks.number;
     if number != 0 {
         return ComplementAnswer::Refused {
@@ -235,20 +273,9 @@ pub fn complement_union(
             table: checks.table,
         };
     }
-    let width = checks.found.count;
-    let ids = first_words(&checks.found.ids, width);
-    let mut t = Table::new(ids, width);
-    t.rows = union_rows(a, b, &checks.found.ids, width, &mut t.cells);
-    let mut columns = [0u64; 16];
-    fusing::fill_columns(&t.cells, t.rows, width, &mut columns);
-    let mut list = [0u64; 1025];
-    let count = list_sets(&t.cells, t.rows, width, &columns, &mut list);
-    if 1024 < count {
-        return ComplementAnswer::Refused {
-            number: 9,
-            table: 2,
-        };
-    }
-    let all = &list[..count];
-    fuse_sets(&ids[..width], &t.cells, t.rows, &columns, all, table, sets)
+    let columns = checks.columns;
+    let found = &all[..columns];
+    let mut t = Table::new(found);
+    t.rows = union_rows(a, b, found, &mut t.cells);
+    fuse_table(&t.ids, t.columns, &t.cells, t.rows, table, sets)
 }

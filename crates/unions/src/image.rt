@@ -27,7 +27,8 @@ pub fn write_ids(buffer: &mut [u32], ids: &[u32], n: usize)
 pub fn write_head(buffer: &mut [u32], rows: usize, ids: &[u32], n: usize)
     requires { ⌜ (n ≤ length (now ids)) × (n < length (now buffer)) × (rows < 2 ^ 12) × (n < 2 ^ 5) ⌝ }
     requires { ⌜ ((k : ℕ) → k < n → getD (now ids) k 0 < 2 ^ 16) ⌝ }
-    ensures { λ r. ⌜ now (buffer .exit) ≡ paste (now (buffer .entry)) 0 (headerWord rows n ∷ map columnWord (take n (now (ids .entry)))) (1 + n) ⌝ }
+    ensures { λ r. ⌜ now (buffer .exit) ≡ paste (now (buffer .entry)) 0
+        (headerWord rows n ∷ map columnWord (take n (now (ids .entry)))) (1 + n) ⌝ }
 {
     buffer[0] = words::header_word(rows as u32, n as u32);
     write_ids(buffer, ids, n);
@@ -42,9 +43,14 @@ pub fn write_table<'a>(
     order: &[u32],
     m: usize,
 ) -> usize
-    requires { ⌜ (columns ≤ length (now ids)) × (columns ≤ maxColumns) × (m < 2 ^ 12) × (m ≤ length (now order)) × Fit columns (length (now cells)) (take m (now order)) × (1 + columns + m * columns ≤ length (now buffer)) ⌝ }
+    requires { ⌜ (columns ≤ length (now ids)) × (columns ≤ maxColumns) × (m < 2 ^ 12)
+        × (m ≤ length (now order)) × Fit columns (length (now cells)) (take m (now order))
+        × (1 + columns + m * columns ≤ length (now buffer)) ⌝ }
     requires { ⌜ ((k : ℕ) → k < columns → getD (now ids) k 0 < 2 ^ 16) ⌝ }
-    ensures { λ r. ⌜ (now (buffer .exit) ≡ imageOf (take columns (now (ids .entry))) (rowsAt columns (now (cells .entry)) (take m (now (order .entry)))) ++ drop (1 + columns + m * columns) (now (buffer .entry))) × (r ≡ filled (flatten (rowsAt columns (now (cells .entry)) (take m (now (order .entry)))))) ⌝ }
+    ensures { λ r. ⌜ (now (buffer .exit) ≡ imageOf (take columns (now (ids .entry)))
+        (rowsAt columns (now (cells .entry)) (take m (now (order .entry))))
+        ++ drop (1 + columns + m * columns) (now (buffer .entry)))
+        × (r ≡ filled (flatten (rowsAt columns (now (cells .entry)) (take m (now (order .entry)))))) ⌝ }
 {
     let start = 1 + columns;
     write_head(buffer, m, ids, columns);

@@ -7,14 +7,14 @@ use crate::image::write_table;
 use crate::questions::check_pair;
 use definitions::MinimumAnswer;
 use tables::Table;
-use tables::first_words;
 use tables::union_rows;
 
 pub fn minimum_union(a: &[u32], b: &[u32], table: &mut [u32]) -> MinimumAnswer
     ensures answers { λ r. ⌜ minimumSays r ≡ minimumOutcome (now (a .entry)) (now (b .entry)) (length (now (table .entry))) ⌝ }
     ensures writes { λ r. ⌜ now (table .exit) ≡ afterwards (minimumOutcome (now (a .entry)) (now (b .entry)) (length (now (table .entry)))) (minimumImage (now (a .entry)) (now (b .entry))) (now (table .entry)) ⌝ }
 {
-    let checks = check_pair(a, b);
+    let mut all = [0u32; 2 * Table::MAX_COLUMNS];
+    let checks = check_pair(a, b, &mut all);
     let number = checks.number;
     if number != 0 {
         return MinimumAnswer::Refused {
@@ -22,20 +22,21 @@ pub fn minimum_union(a: &[u32], b: &[u32], table: &mut [u32]) -> MinimumAnswer
             table: checks.table,
         };
     }
-    let columns = checks.found.count;
-    let mut t = Table::new(first_words(&checks.found.ids, columns), columns);
-    t.rows = union_rows(a, b, &checks.found.ids, columns, &mut t.cells);
-    let mut kept = [0u32; 64];
-    let left = minimum::minimum_rows(&t.cells, t.rows, columns, &mut kept);
+    let columns = checks.columns;
+    let found = &all[..columns];
+    let mut t = Table::new(found);
+    t.rows = union_rows(a, b, found, &mut t.cells);
+    let mut kept = [0u32; Table::MAX_ROWS];
+    let left = minimum::minimum_rows(&t.cells, t.rows, t.columns, &mut kept);
     let rows = left.rows;
-    let words = 1 + columns + rows * columns;
+    let words = 1 + t.columns + rows * t.columns;
     if table.len() < words {
         return MinimumAnswer::Refused {
             number: 10,
             table: 2,
         };
     }
-    let filled = write_table(table, &t.ids, columns, &t.cells, &kept, rows);
+    let filled = write_table(table, &t.ids, t.columns, &t.cells, &kept, rows);
     MinimumAnswer::Done {
         rows,
         words,

@@ -7,14 +7,14 @@ use crate::image::write_table;
 use crate::questions::check_pair;
 use definitions::OuterAnswer;
 use tables::Table;
-use tables::first_words;
 use tables::widen_both;
 
 pub fn outer_union(a: &[u32], b: &[u32], table: &mut [u32]) -> OuterAnswer
     ensures answers { λ r. ⌜ outerSays r ≡ outerOutcome (now (a .entry)) (now (b .entry)) (length (now (table .entry))) ⌝ }
     ensures writes { λ r. ⌜ now (table .exit) ≡ afterwards (outerOutcome (now (a .entry)) (now (b .entry)) (length (now (table .entry)))) (outerImage (now (a .entry)) (now (b .entry))) (now (table .entry)) ⌝ }
 {
-    let checks = check_pair(a, b);
+    let mut all = [0u32; 2 * Table::MAX_COLUMNS];
+    let checks = check_pair(a, b, &mut all);
     let number = checks.number;
     if number != 0 {
         return OuterAnswer::Refused {
@@ -22,20 +22,21 @@ pub fn outer_union(a: &[u32], b: &[u32], table: &mut [u32]) -> OuterAnswer
             table: checks.table,
         };
     }
-    let columns = checks.found.count;
-    let mut t = Table::new(first_words(&checks.found.ids, columns), columns);
-    t.rows = widen_both(a, b, &checks.found.ids, columns, &mut t.cells);
-    let mut order = [0u32; 64];
-    let mut spare = [0u32; 64];
-    let rows = rows::order_rows(&t.cells, columns, t.rows, &mut order, &mut spare);
-    let words = 1 + columns + rows * columns;
+    let columns = checks.columns;
+    let found = &all[..columns];
+    let mut t = Table::new(found);
+    t.rows = widen_both(a, b, found, &mut t.cells);
+    let mut order = [0u32; Table::MAX_ROWS];
+    let mut spare = [0u32; Table::MAX_ROWS];
+    let rows = rows::order_rows(&t.cells, t.columns, t.rows, &mut order, &mut spare);
+    let words = 1 + t.columns + rows * t.columns;
     if table.len() < words {
         return OuterAnswer::Refused {
             number: 10,
             table: 2,
         };
     }
-    let filled = write_table(table, &t.ids, columns, &t.cells, &order, rows);
+    let filled = write_table(table, &t.ids, t.columns, &t.cells, &order, rows);
     OuterAnswer::Done {
         rows,
         words,

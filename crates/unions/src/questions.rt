@@ -1,27 +1,28 @@
 // The questions 1 to 8, put to a pair of images.
+ghost use Prim.Native.Nat.{_≤_};
+ghost use lib.ListN.{length};
+ghost use Rattle.tables.specs.Places.{maxIds};
 ghost use Rattle.unions.specs.Pair.{Checked};
-use tables::Ids;
+use tables::Table;
 
-// The number of the first question answered no and its table, or 0 and the columns of the union.
+// The number of the first question answered no and its table, or 0 and how many columns the union has.
 pub struct Checks {
     pub number: u32,
     pub table: u32,
-    pub found: Ids,
+    pub columns: usize,
 }
 
-pub fn check_pair(a: &[u32], b: &[u32]) -> Checks
-    ensures { λ r. ⌜ Checked (now (a .entry)) (now (b .entry)) r ⌝ }
+// Writes the ids of both images over the list, each once, to count them; an accepted pair's table is made of them.
+pub fn check_pair(a: &[u32], b: &[u32], all: &mut [u32]) -> Checks
+    requires { ⌜ maxIds ≤ length (now all) ⌝ }
+    ensures { λ r. ⌜ Checked (now (a .entry)) (now (b .entry)) (now (all .exit)) r ⌝ }
 {
-    let none = Ids {
-        ids: [0; 32],
-        count: 0,
-    };
     let first = images::check_image(a, 32);
     if first != 0 {
         return Checks {
             number: first,
             table: 0,
-            found: none,
+            columns: 0,
         };
     }
     let second = images::check_image(b, 32);
@@ -29,21 +30,20 @@ pub fn check_pair(a: &[u32], b: &[u32]) -> Checks
         return Checks {
             number: second,
             table: 1,
-            found: none,
+            columns: 0,
         };
     }
-    let found = tables::union_ids(a, b);
-    let columns = found.count;
-    if 16 < columns {
+    let columns = tables::both_ids(a, b, all);
+    if Table::MAX_COLUMNS < columns {
         return Checks {
             number: 8,
             table: 2,
-            found,
+            columns,
         };
     }
     Checks {
         number: 0,
         table: 2,
-        found,
+        columns,
     }
 }

@@ -1,20 +1,21 @@
 -- `keep_rows` meets its contract. The loop's invariant: the numbers written name those of the first k rows that stay. Assumes nothing.
 use borrow.Author.Needs.{needs}
-use Prim.Native.Nat.{_-_, _≤_}
+use Prim.Native.Nat.{_-_, _≤_, _<_}
 use mathlib.Core.Path.{_≡_, refl, _∙_}
 use native.Mathlib.Omega.{arith}
 use lib.ListN.{length, length-set}
 use Rattle.definitions.specs.Limits.{maxUnionRows}
-use Rattle.minimum.proofs.Keeping.{KeptTo, kept-none, subsumed-left, unsubsumed-kept, kept-rows, kept-pairs}
+use Rattle.lists.proofs.Flat.{rows-length}
+use Rattle.minimum.proofs.Keeping.{KeptTo, kept-none, subsumed-left, unsubsumed-kept, kept-rows}
 use Rattle.minimum.proofs.keep_rows.Statement.{statement}
 use Rattle.minimum.proofs.keep_rows.Tie as tie
 
 abbrev Inv-loop : tie.InvT-loop
-Inv-loop cells counts marks n width kept₀ rows₀ pairs₀ k₀ kept rows pairs k =
+Inv-loop cells counts fuller columns n width kept₀ rows₀ pairs₀ k₀ kept rows pairs k =
     (k ≤ n) × (length kept ≡ length kept₀) × KeptTo width n cells kept rows pairs k
 
 abbrev μ-loop : tie.MeasureT-loop
-μ-loop cells counts marks n width kept₀ rows₀ pairs₀ k₀ kept rows pairs k = n - k
+μ-loop cells counts fuller columns n width kept₀ rows₀ pairs₀ k₀ kept rows pairs k = n - k
 
 -- where the row has been tried
 module _ (c : tie.After-try-row Inv-loop μ-loop) where
@@ -22,14 +23,17 @@ module _ (c : tie.After-try-row Inv-loop μ-loop) where
   turn = c .before .before
 
   abbrev start : tie.Start Inv-loop μ-loop
-  start = turn .before .before .before .before .before
+  start = turn .before .before .before .before .before .before
 
   few : start .args .n ≤ maxUnionRows
   few = start .pre .0 .few
 
+  fewer-pairs : c .try-row .result .pairs < start .args .n
+  fewer-pairs = omega (arith, c .try-row .ensures .fewer, rows-length (start .args .width) (start .args .n) (start .args .cells .now))
+
 loop-holds : tie.Need-loop-holds Inv-loop μ-loop
 loop-holds c =
-    let a = c .before .before .before .before .args in
+    let a = c .before .before .before .before .before .args in
     (search needs, refl, kept-none (a .width) (a .n) (a .cells .now) (a .kept .now))
 
 try-row-requires : tie.Need-try-row-requires Inv-loop μ-loop
@@ -38,7 +42,7 @@ try-row-requires c κs = search needs
 add-pairs : tie.Need-add-pairs Inv-loop μ-loop
 add-pairs c =
     let t = c .before in
-    omega (arith, turn t .loop .inv .2 .bound, few t, t .try-row .ensures .2)
+    omega (arith, turn t .loop .inv .2 .bound, few t, fewer-pairs t)
 
 add-k : tie.Need-add-k Inv-loop μ-loop
 add-k c = search needs
@@ -51,7 +55,7 @@ loop-again c =
     let t = c .before .before in
     let l = turn t .loop in
     let e = t .try-row .ensures in
-    (search needs, l .inv .1, subsumed-left (l .inv .2) (few t) (search needs) (e .0) (e .1) (e .2) (c .if1 .taken))
+    (search needs, l .inv .1, subsumed-left (l .inv .2) (few t) (search needs) e (c .if1 .taken))
 
 cast-kept : tie.Need-cast-kept Inv-loop μ-loop
 cast-kept c = omega (arith, few (c .before .before))
@@ -78,7 +82,7 @@ loop-again-2 c =
     let e = t .try-row .ensures in (
       search needs,
       length-set (l .kept) (l .rows) (l .k) ∙ l .inv .1,
-      unsubsumed-kept (l .inv .2) (few t) (search needs) (e .0) (e .1) (e .2) (search needs) (c .if1 .left),
+      unsubsumed-kept (l .inv .2) (few t) (search needs) e (search needs) (c .if1 .left),
     )
 
 same-length : tie.Need-same-length Inv-loop μ-loop
@@ -87,7 +91,7 @@ same-length c = c .before .loop .inv .1
 returns : tie.Need-returns Inv-loop μ-loop
 returns c =
     let i = c .before .loop .inv in
-    (search needs, kept-rows (i .2) (search needs), kept-pairs (i .2) (search needs))
+    kept-rows (i .2) (search needs)
 
 pub keep-rows-spec : {M : Type 1} → statement M
 keep-rows-spec =

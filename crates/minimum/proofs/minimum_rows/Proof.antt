@@ -1,7 +1,32 @@
--- `minimum_rows` meets its contract: the rows are counted and marked, and then tried. Assumes nothing.
+-- `minimum_rows` meets its contract: the rows are counted, the rows with more filled cells and those filled in each column are marked, and
+-- then each row is tried. Assumes nothing.
 use borrow.Author.Needs.{needs}
+use Prim.Native.Nat.{ℕ, _<_}
+use mathlib.Core.Path.{_≡_, sym}
+use mathlib.Core.List.{List}
+use native.Mathlib.Omega.{arith}
+use lib.ListN.{length, getD, take}
+use Rattle.tables.proofs.Scatter.{empty-cells}
+use Rattle.patterns.proofs.FilledRows.{columns-none}
+use Rattle.minimum.proofs.Counting.{counted-length, count-small}
 use Rattle.minimum.proofs.minimum_rows.Statement.{statement}
 use Rattle.minimum.proofs.minimum_rows.Tie as tie
+
+-- where the rows are counted
+module _ (c : tie.After-counts2) where
+  abbrev start : tie.Start
+  start = c .before .before .before .before .before
+
+  abbrev counts : List ℕ
+  counts = take (start .args .n) (c .before .fill-counts .last .1 .1 .1 .0)
+
+  counts-long : length counts ≡ start .args .n
+  counts-long = let s = start .args in counted-length (s .width) (s .n) (s .cells .now) counts (c .before .fill-counts .ensures)
+
+  counts-small : (j : ℕ) → getD counts j 0 < 17
+  counts-small =
+      let s = start .args in
+      count-small (s .width) (s .n) (s .cells .now) counts (c .before .fill-counts .ensures) (start .pre .1)
 
 slice-aggregate-fill-counts : tie.Need-slice-aggregate-fill-counts
 slice-aggregate-fill-counts c = search needs
@@ -9,11 +34,27 @@ slice-aggregate-fill-counts c = search needs
 fill-counts-requires : tie.Need-fill-counts-requires
 fill-counts-requires c κs = search needs
 
-slice-aggregate-mark-rows : tie.Need-slice-aggregate-mark-rows
-slice-aggregate-mark-rows c = search needs
+array-share-prefix-counts : tie.Need-array-share-prefix-counts
+array-share-prefix-counts c = search needs
 
-mark-rows-requires : tie.Need-mark-rows-requires
-mark-rows-requires c κs = search needs
+slice-aggregate-counted : tie.Need-slice-aggregate-counted
+slice-aggregate-counted c = sym (counts-long (c .before))
+
+slice-aggregate-fill-fuller : tie.Need-slice-aggregate-fill-fuller
+slice-aggregate-fill-fuller c = search needs
+
+fill-fuller-requires : tie.Need-fill-fuller-requires
+fill-fuller-requires c κs =
+    let q = c .before .before in
+    ((omega (arith, counts-long q, start q .pre .0), counts-small q), empty-cells 17)
+
+slice-aggregate-fill-columns : tie.Need-slice-aggregate-fill-columns
+slice-aggregate-fill-columns c = search needs
+
+fill-columns-requires : tie.Need-fill-columns-requires
+fill-columns-requires c κs =
+    let q = c .before .before .before .before .before .before .before .before .before .before in
+    (q .pre .0, q .pre .2, columns-none (q .args .width) (q .pre .1))
 
 slice-aggregate-keep-rows : tie.Need-slice-aggregate-keep-rows
 slice-aggregate-keep-rows c = search needs
@@ -23,10 +64,20 @@ slice-aggregate-keep-rows-2 c = search needs
 
 keep-rows-requires : tie.Need-keep-rows-requires
 keep-rows-requires c κs =
-    let m = c .before .before .before .before in
-    let f = m .before .before .before in
-    let q = f .before .before .before .before in
-    (record { narrow = q .pre .1; few = q .pre .0; room = search needs; counted = f .fill-counts .ensures; marked = m .mark-rows .ensures }, search needs)
+    let f = c .before .before .before .before in
+    let u = f .before .before .before in
+    let k = u .before .before .before in
+    let q = start k in (
+      record {
+        few = q .pre .0;
+        fits = q .pre .2;
+        counted = k .before .fill-counts .ensures;
+        room = λ j. omega (arith, counts-small k j, u .fill-fuller .kept .1 .0);
+        fuller-rows = u .fill-fuller .ensures;
+        filled-rows = f .fill-columns .ensures;
+      },
+      search needs,
+    )
 
 same-length : tie.Need-same-length
 same-length c = search needs
@@ -40,8 +91,12 @@ minimum-rows-spec =
     (tie.spec
     slice-aggregate-fill-counts
     fill-counts-requires
-    slice-aggregate-mark-rows
-    mark-rows-requires
+    array-share-prefix-counts
+    slice-aggregate-counted
+    slice-aggregate-fill-fuller
+    fill-fuller-requires
+    slice-aggregate-fill-columns
+    fill-columns-requires
     slice-aggregate-keep-rows
     slice-aggregate-keep-rows-2
     keep-rows-requires

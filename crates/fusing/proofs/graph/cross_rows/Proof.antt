@@ -7,7 +7,7 @@ use native.Mathlib.Omega.{arith}
 use lib.ListN.{length, length-set}
 use Rattle.definitions.specs.Image.{rowsIn}
 use Rattle.lists.proofs.Flat.{rows-length, row-fits}
-use Rattle.fusing.proofs.Parts.{part-length}
+use Rattle.patterns.proofs.Parts.{part-length}
 use Rattle.fusing.proofs.Crossing.{rows-seen, CrossingTo, crossing-turn}
 use Rattle.fusing.proofs.graph.cross_rows.Statement.{statement}
 use Rattle.fusing.proofs.graph.cross_rows.Tie as tie

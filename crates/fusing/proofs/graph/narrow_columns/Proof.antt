@@ -8,7 +8,8 @@ use lib.ListN.{length, getD}
 use Rattle.definitions.specs.Image.{rowsIn}
 use Rattle.lists.proofs.Flat.{rows-length}
 use Rattle.bitsets.specs.Bits.{has}
-use Rattle.fusing.proofs.FilledRows.{filled-within, columns-within}
+use Rattle.patterns.proofs.FilledRows.{filled-within}
+use Rattle.fusing.proofs.FilledRows.{columns-within}
 use Rattle.fusing.proofs.Narrowing.{NarrowedTo, narrowed-none, narrowed-turn, narrowed-end}
 use Rattle.fusing.proofs.graph.narrow_columns.Statement.{statement}
 use Rattle.fusing.proofs.graph.narrow_columns.Tie as tie

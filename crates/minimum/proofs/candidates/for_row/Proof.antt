@@ -1,4 +1,5 @@
--- `for_row` meets its contract. The loop's invariant: the set holds each row that is marked for the filled cells passed. Assumes nothing.
+-- `for_row` meets its contract. The loop's invariant: the set holds the fuller rows that are filled where the row is, of the columns passed.
+-- Assumes nothing.
 use borrow.Author.Needs.{needs}
 use Prim.Native.Nat.{_-_, _≤_}
 use lib.ListN.{length}
@@ -7,28 +8,27 @@ use Rattle.minimum.proofs.candidates.for_row.Statement.{statement}
 use Rattle.minimum.proofs.candidates.for_row.Tie as tie
 
 abbrev Inv-loop : tie.InvT-loop
-Inv-loop row marks set₀ c₀ set c = (c ≤ length row) × HeldTo row marks c set
+Inv-loop row fuller columns set₀ c₀ set c = (c ≤ length row) × HeldTo row fuller columns c set
 
 abbrev μ-loop : tie.MeasureT-loop
-μ-loop row marks set₀ c₀ set c = length row - c
+μ-loop row fuller columns set₀ c₀ set c = length row - c
 
 loop-holds : tie.Need-loop-holds Inv-loop μ-loop
-loop-holds c = (search needs, held-all (c .before .before .args .row .now) (c .before .before .args .marks .now))
-
-mul-cell : tie.Need-mul-cell Inv-loop μ-loop
-mul-cell c = search needs
-
-shared-slice-read-cell : tie.Need-shared-slice-read-cell Inv-loop μ-loop
-shared-slice-read-cell c = search needs
-
-slot-requires : tie.Need-slot-requires Inv-loop μ-loop
-slot-requires c κs = search needs
+loop-holds c =
+    let a = c .before .before .args in
+    (search needs, held-all (a .row .now) (a .fuller) (a .columns .now))
 
 mul-set : tie.Need-mul-set Inv-loop μ-loop
 mul-set c = search needs
 
 shared-slice-read-set : tie.Need-shared-slice-read-set Inv-loop μ-loop
 shared-slice-read-set c = search needs
+
+mul-blank : tie.Need-mul-blank Inv-loop μ-loop
+mul-blank c = search needs
+
+shared-slice-read-blank : tie.Need-shared-slice-read-blank Inv-loop μ-loop
+shared-slice-read-blank c = search needs
 
 blank-requires : tie.Need-blank-requires Inv-loop μ-loop
 blank-requires c κs = search needs
@@ -41,16 +41,15 @@ loop-less c = search needs
 
 loop-again : tie.Need-loop-again Inv-loop μ-loop
 loop-again c =
-    let a = c .before .before .before .before .before .before .before .before .args in
-    let l = c .before .before .before .before .before .loop in
-    let r = c .before .before .slot in
-    (search needs, held-turn (a .row .now) (a .marks .now) (l .c) (l .set) (r .result) (c .blank .result) (l .inv .1) (r .ensures .0) (c .blank .ensures))
+    let l = c .before .before .before .before .loop in
+    let a = c .before .before .before .before .before .before .before .args in
+    (search needs, held-turn (a .row .now) (a .fuller) (a .columns .now) (l .c) (l .set) (c .blank .result) (l .inv .1) (c .blank .ensures))
 
 returns : tie.Need-returns Inv-loop μ-loop
 returns c =
     let a = c .before .before .before .before .args in
     let l = c .before .loop in
-    held-done (a .row .now) (a .marks .now) (l .c) (l .set) (l .inv .1) (search needs)
+    held-done (a .row .now) (a .fuller) (a .columns .now) (l .c) (l .set) (l .inv .1) (search needs)
 
 pub for-row-spec : {M : Type 1} → statement M
 for-row-spec =
@@ -59,11 +58,10 @@ for-row-spec =
     Inv-loop
     μ-loop
     loop-holds
-    mul-cell
-    shared-slice-read-cell
-    slot-requires
     mul-set
     shared-slice-read-set
+    mul-blank
+    shared-slice-read-blank
     blank-requires
     add-c
     loop-less

@@ -9,7 +9,7 @@ use lib.ListN.{length, length-take}
 use Rattle.definitions.specs.Image.{rowsIn}
 use Rattle.definitions.specs.MinimumUnion.{filled}
 use Rattle.lists.proofs.Pastes.{paste-none}
-use Rattle.patterns.proofs.Patterns.{row-ends, next-row}
+use Rattle.patterns.proofs.Parts.{row-ends, next-row}
 use Rattle.minimum.proofs.Counting.{CountsTo, counts-turn, counts-end}
 use Rattle.minimum.proofs.counts.fill_counts.Statement.{statement}
 use Rattle.minimum.proofs.counts.fill_counts.Tie as tie
@@ -87,7 +87,7 @@ returns : tie.Need-returns Inv-loop μ-loop
 returns c =
     let a = c .before .before .before .before .args in
     let l = c .before .loop in
-    counts-end (a .width) (a .n) (a .cells .now) (a .counts .now) (search needs) (l .i) (l .counts) (search needs) (l .inv .2) (omega arith)
+    counts-end (a .width) (a .n) (a .cells .now) (a .counts .now) (search needs) (l .i) (l .counts) (l .inv .2) (omega arith)
 
 pub fill-counts-spec : {M : Type 1} → statement M
 fill-counts-spec =

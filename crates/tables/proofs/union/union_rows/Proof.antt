@@ -1,6 +1,10 @@
 -- The widened rows of both images, ordered.
+use mathlib.Core.Path.{_∙_, ap}
 use native.Mathlib.Omega.{arith}
+use lib.ListN.{length}
 use Rattle.definitions.specs.Limits.{maxUnionRows}
+use Rattle.definitions.specs.Ascending.{ascending}
+use Rattle.definitions.specs.OuterUnion.{compareRow, unionRows}
 use Rattle.tables.proofs.Scatter.{empty-cells}
 use Rattle.tables.proofs.UnionLaws.{few-words}
 use borrow.Author.Needs.{needs}
@@ -17,14 +21,19 @@ order-cells-requires : tie.Need-order-cells-requires
 order-cells-requires c κs =
     let s = c .before .before .before .before .before .before .before in
     let w = c .before .before .widen-both .ensures in
-    let f = few-words (c .before .before .widen-both .result) maxUnionRows (s .args .n) (w .1) (s .pre .2) in
-    (s .pre .2, w .1, omega (arith, f, w .2), search needs)
+    let f = few-words (c .before .before .widen-both .result) maxUnionRows (length (s .args .all .now)) (w .few-rows) (s .pre .few) in
+    (s .pre .few, w .few-rows, omega (arith, f, w .cell-words), search needs)
 
 returns : tie.Need-returns
+unfolding unionRows
 returns c =
     let w = c .before .before .before .widen-both .ensures in
     let o = c .order-cells .ensures in
-    (rw (w .0) at (o .0), omega (arith, o .1, w .1), search needs)
+    record {
+      rows-are = o .0 ∙ ap (ascending compareRow) (w .rows-are);
+      few-rows = omega (arith, o .1, w .few-rows);
+      cell-words = search needs;
+    }
 
 pub union-rows-spec : {M : Type 1} → statement M
 union-rows-spec =

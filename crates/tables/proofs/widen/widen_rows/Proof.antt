@@ -10,15 +10,17 @@ use Rattle.definitions.specs.Image.{rowCount}
 use Rattle.definitions.proofs.Questions.{passed-is}
 use Rattle.lists.proofs.Pastes.{paste-all}
 use Rattle.definitions.specs.OuterUnion.{widenedRows}
+use Rattle.tables.specs.Places.{inOrder}
+use Rattle.tables.proofs.Smaller.{distinct-count}
 use Rattle.tables.proofs.WidenLaws.{Widening, widen-starts, source-within, target-within, cells-within, widen-turn}
 use Rattle.tables.proofs.widen.widen_rows.Statement.{statement}
 use Rattle.tables.proofs.widen.widen_rows.Tie as tie
 
 abbrev Inv-loop : tie.InvT-loop
-Inv-loop image union places cells₀ at header columns rows width i₀ from₀ to₀ cells i from to = Widening image union cells₀ at columns i from to cells
+Inv-loop image all places cells₀ at header columns rows width i₀ from₀ to₀ cells i from to = Widening image (inOrder all) cells₀ at columns i from to cells
 
 abbrev μ-loop : tie.MeasureT-loop
-μ-loop image union places cells₀ at header columns rows width i₀ from₀ to₀ cells i from to = rows - i
+μ-loop image all places cells₀ at header columns rows width i₀ from₀ to₀ cells i from to = rows - i
 
 shared-slice-read-header : tie.Need-shared-slice-read-header Inv-loop μ-loop
 shared-slice-read-header c =
@@ -44,7 +46,7 @@ loop-holds : tie.Need-loop-holds Inv-loop μ-loop
 loop-holds c =
     let q = c .before .before .before .before .before .before .before in
     let s = q .args in
-    widen-starts (s .image .now) (s .union .now) (s .cells .now) (s .at) _ (q .pre .0 .0) (c .before .columns .ensures) (q .pre .1 .0)
+    widen-starts (s .image .now) (inOrder (s .all .now)) (s .cells .now) (s .at) _ (q .pre .0 .0) (c .before .columns .ensures) (q .pre .1 .0)
 
 -- in the loop: there is a row more, it is within the image, and its place within the cells
 module _ (c : tie.In-loop Inv-loop μ-loop) where
@@ -60,8 +62,12 @@ module _ (c : tie.In-loop Inv-loop μ-loop) where
   source : turn .loop .from + turn .before .before .columns .result ≤ length (start .args .image .now)
   source = source-within (turn .loop .inv) more
 
-  target : turn .loop .to + length (start .args .union .now) ≤ length (start .args .cells .now)
-  target = target-within (turn .loop .inv) more
+  -- the ids are as many as in order
+  even : length (inOrder (start .args .all .now)) ≡ length (start .args .all .now)
+  even = distinct-count (start .args .all .now) (start .pre .0 .1)
+
+  target : turn .loop .to + length (start .args .all .now) ≤ length (start .args .cells .now)
+  target = omega (arith, even, target-within (turn .loop .inv) more)
 
 add-end : tie.Need-add-end Inv-loop μ-loop
 add-end c = let w = source c in search needs
@@ -82,7 +88,7 @@ widen-row-requires : tie.Need-widen-row-requires Inv-loop μ-loop
 widen-row-requires c κs =
     let l = c .before .before in
     let q = start l in
-    cells-within (turn l .loop .inv) (more l) (q .args .places .now) (q .pre .0 .1) (q .pre .0 .2)
+    cells-within (turn l .loop .inv) (more l) (q .args .places .now) (q .pre .0 .2) (q .pre .0 .3)
 
 add-to : tie.Need-add-to Inv-loop μ-loop
 add-to c = let w = target (c .before .before .before .before .before) in search needs
@@ -98,7 +104,8 @@ loop-again c =
     let k = c .before .before in
     let l = k .before .before .before in
     let q = start l in
-    widen-turn (turn l .loop .inv) (more l) (q .args .places .now) (q .pre .0 .1) (q .pre .0 .2) (q .pre .1 .1) _ (k .widen-row .ensures)
+    let next = widen-turn (turn l .loop .inv) (more l) (q .args .places .now) (q .pre .0 .2) (q .pre .0 .3) (q .pre .1 .1) _ (k .widen-row .ensures) in
+    rw (even l) at next
 
 same-length : tie.Need-same-length Inv-loop μ-loop
 same-length c = c .before .loop .inv .written .size
@@ -107,11 +114,12 @@ returns : tie.Need-returns Inv-loop μ-loop
 returns c =
     let l = c .before .loop in
     let s = c .before .before .before .before .before .before .before .before .before .args in
-    let width = length (s .union .now) in
+    let union = inOrder (s .all .now) in
+    let width = length union in
     let r = c .before .before .rows .ensures in
     let v = l .inv .rows in
     let e : l .i ≡ rowCount (s .image .now) = omega arith in
-    paste-all (s .cells .now) (s .at) (flatten (widenedRows (s .union .now) (s .image .now))) (l .i * width) _ (l .cells) (l .inv .written)
+    paste-all (s .cells .now) (s .at) (flatten (widenedRows union (s .image .now))) (l .i * width) _ (l .cells) (l .inv .written)
     (ap (λ (k : ℕ). k * width) e)
 
 pub widen-rows-spec : {M : Type 1} → statement M

@@ -1,11 +1,13 @@
 -- The places of the image's columns in the union give its widened rows.
-use mathlib.Core.Path.{sym}
+use mathlib.Core.Path.{sym, _∙_}
 use native.Mathlib.Omega.{arith}
 use lib.ListN.{replicate}
 use lib.Seq.{length-take-le}
 use Rattle.definitions.specs.Limits.{maxRows}
+use Rattle.definitions.specs.Image.{imageIds}
 use Rattle.definitions.proofs.Questions.{passed-is}
 use Rattle.tables.proofs.IdLaws.{columns-of}
+use Rattle.tables.proofs.Scatter.{places-ordered}
 use Rattle.tables.proofs.WidenLaws.{places-written}
 use borrow.Author.Needs.{needs}
 use Rattle.tables.proofs.widen.widen_table.Statement.{statement}
@@ -47,7 +49,7 @@ column-places-requires c κs =
     let u = columns-of (s .args .image .now) _ (s .pre .0 .0) (c .before .before .columns .ensures) in
     let z = u .size in
     let f = u .few in
-    (omega arith, omega (arith, s .pre .0 .1))
+    (omega arith, omega (arith, s .pre .0 .3))
 
 array-share-prefix-places : tie.Need-array-share-prefix-places
 array-share-prefix-places c =
@@ -67,8 +69,10 @@ widen-rows-requires : tie.Need-widen-rows-requires
 widen-rows-requires c κs =
     let s = c .before .before .before .before .before .before .before .before .before .before .before in
     let u = columns-of (s .args .image .now) _ (s .pre .0 .0) (c .before .before .before .before .before .before .columns .ensures) in
-    let places = places-written (s .args .union .now) (s .args .image .now) _ (replicate 16 0) _ _ u (c .before .before .before .column-places .ensures) in
-    ((s .pre .0 .0, s .pre .0 .2, places), s .pre .1)
+    let all = s .args .all .now in
+    let image = s .args .image .now in
+    let places = places-written all image _ (replicate 16 0) _ _ u (c .before .before .before .column-places .ensures) in
+    ((s .pre .0 .0, s .pre .0 .1, s .pre .0 .2, places ∙ places-ordered all (imageIds image) (s .pre .0 .1)), s .pre .1)
 
 same-length : tie.Need-same-length
 same-length c = search needs

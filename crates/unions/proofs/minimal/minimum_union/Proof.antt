@@ -1,15 +1,16 @@
 -- Each return is a case of the definition: a refusal with the buffer as it was, or done with the image of the rows left over its front.
-use mathlib.Core.Path.{refl, _∙_, ap}
-use mathlib.Core.List.{[], _∷_}
+use mathlib.Core.Path.{refl, sym, _∙_, ap}
+use mathlib.Core.List.{List, [], _∷_}
 use Prim.Native.Nat.{ℕ}
 use native.Mathlib.Omega.{arith}
+use lib.ListN.{take}
+use lib.Seq.{length-take-le}
 use Rattle.definitions.specs.OuterUnion.{unionIds, unionRows}
 use Rattle.definitions.specs.MinimumUnion.{minimumRows, pairsTried}
 use Rattle.definitions.specs.Calls.{minimumImage, minimumOutcome}
 use Rattle.tables.specs.declared.Table.{Table}
-use Rattle.tables.specs.Table.{Holds}
-use Rattle.tables.proofs.UnionLaws.{union-holds}
-use Rattle.unions.specs.Pair.{Found}
+use Rattle.tables.specs.Table.{Found, Holds}
+use Rattle.tables.proofs.UnionLaws.{filled-holds}
 use Rattle.unions.proofs.Numbered.{Named, named-cells, named-asked}
 use Rattle.unions.proofs.Kept.{cells-there, minimum-named}
 use Rattle.unions.proofs.Ends.{refused-pair, refused-room, done-room}
@@ -17,56 +18,63 @@ use borrow.Author.Needs.{needs}
 use Rattle.unions.proofs.minimal.minimum_union.Statement.{statement}
 use Rattle.unions.proofs.minimal.minimum_union.Tie as tie
 
+slice-aggregate-check-pair : tie.Need-slice-aggregate-check-pair
+slice-aggregate-check-pair c = search needs
+
 check-pair-requires : tie.Need-check-pair-requires
 check-pair-requires c κs = search needs
 
 returns : tie.Need-returns
 unfolding minimumOutcome
 returns c =
-    let k = c .before .check-pair in
-    let s = c .before .before .before .before .before .args in
+    let k = c .before .before .check-pair in
+    let s = c .before .before .before .before .before .before .before .args in
     refused-pair (s .a .now) (s .b .now) (k .result) (k .ensures) _ (minimumImage (s .a .now) (s .b .now)) (s .table .now) (c .if1 .taken)
 
 -- ---- the pair is accepted
 
 abbrev start : tie.Else1 → tie.Start
-start c = c .before .before .before .before .before
+start c = c .before .before .before .before .before .before .before
 
-found : (c : tie.Else1) → (let s = start c .args in let k = c .before .check-pair .result .found in Found (s .a .now) (s .b .now) (k .ids) (k .count))
-found c = c .before .check-pair .ensures .accepted (c .if1 .left)
+-- the ids of both images, as they stand in the list
+abbrev all : tie.Else1 → List ℕ
+all c = let k = c .before .before .check-pair in take (k .result .columns) (k .last .1 .1 .0)
 
-first-words-requires : tie.Need-first-words-requires
-first-words-requires c κs = let few = found (c .before .before .before) .few in (few, search needs)
+found : (c : tie.Else1) → (let s = start c .args in Found (s .a .now) (s .b .now) (all c))
+found c = c .before .before .check-pair .ensures .accepted (c .if1 .left)
+
+array-share-prefix-all : tie.Need-array-share-prefix-all
+array-share-prefix-all c = let few = c .before .before .check-pair .ensures .few (c .if1 .left) in search needs
+
+slice-aggregate-found : tie.Need-slice-aggregate-found
+slice-aggregate-found c =
+    let q = c .before in
+    let k = q .before .before .check-pair in
+    let few = k .ensures .few (q .if1 .left) in
+    sym (length-take-le (k .result .columns) (k .last .1 .1 .0) (search needs))
 
 new-requires : tie.Need-new-requires
-new-requires c κs = search needs
+new-requires c κs = let f = found (c .before) in (f .few, f .ids .differ)
 
 union-rows-requires : tie.Need-union-rows-requires
-union-rows-requires c κs =
-    let f = found (c .before .before .before .before .before .before .before .before .before) in
-    let few = f .few in
-    (f .first, f .second, few, search needs, f .columns)
+union-rows-requires c κs = found (c .before .before .before)
 
 -- ---- the table in work holds T
 
 abbrev accepted : tie.After-kept → tie.Else1
-accepted c = c .before .before .before .before .before .before .before .before .before .before .before .before .before .before
+accepted c = c .before .before .before .before .before .before .before .before
 
 abbrev work : tie.After-kept → Table
-work c = record {
-  cells = c .before .before .before .before .union-rows .last .1 .1 .1 .1 .0;
-  ids = c .before .before .before .before .before .before .before .before .before .new .result .ids;
-  rows = c .before .before .before .before .union-rows .result;
-  columns = accepted c .before .check-pair .result .found .count;
-}
+work c =
+    let u = c .before .before .before .before in
+    let new = u .before .before .new .result in
+    record { cells = u .union-rows .last .1 .1 .1 .0; ids = new .ids; rows = u .union-rows .result; columns = new .columns }
 
 held : (c : tie.After-kept) → (let s = start (accepted c) .args in Holds (work c) (unionIds (s .a .now) (s .b .now)) (unionRows (s .a .now) (s .b .now)))
 held c =
     let u = c .before .before .before .before in
-    let n = u .before .before .before .before .before in
-    let f = found (accepted c) in
-    union-holds _ _ _ _ _ (work c) (f .columns) (f .counted) (f .few) (n .new .ensures .0) refl (n .before .first-words .ensures)
-    (u .union-rows .ensures)
+    let n = u .before .before .new in
+    filled-holds (found (accepted c)) (n .result) (n .ensures) refl refl (u .union-rows .ensures)
 
 slice-aggregate-minimum-rows : tie.Need-slice-aggregate-minimum-rows
 slice-aggregate-minimum-rows c = search needs
@@ -89,8 +97,8 @@ result c =
     let o = c .before .minimum-rows .ensures in
     let h = held (made c) in
     let r = h .few-rows in
-    let m = o .0 in
-    minimum-named (found (accepted (made c))) _ _ m (search needs) h (o .1)
+    let m = o .count in
+    minimum-named (found (accepted (made c))) _ _ (search needs) h o
 
 add-words : tie.Need-add-words
 add-words c = let g = result c .few-columns in search needs
@@ -125,12 +133,12 @@ returns-3 c =
     let i = c .before .before .before .before .before .before .before .before .before .before in
     let k = i .before in
     let q = accepted (made k) in
-    let p = k .before .minimum-rows .ensures .2 ∙ ap pairsTried (held (made k) .rows-are) in
+    let p = k .before .minimum-rows .ensures .tried ∙ ap pairsTried (held (made k) .rows-are) in
     done-room (found q) (result k) _ (start q .args .table .now) (omega (arith, i .if2 .left)) _ _ (c .before .before .write-table .ensures)
     _ (ap (λ (x : ℕ). x ∷ []) p)
 
 pub minimum-union-spec : {M : Type 1} → statement M
 minimum-union-spec =
     tie.close
-    (tie.spec check-pair-requires returns first-words-requires new-requires union-rows-requires slice-aggregate-minimum-rows
-    minimum-rows-requires add-words mul-words add-words-2 returns-2 slice-aggregate-write-table write-table-requires same-length returns-3)
+    (tie.spec slice-aggregate-check-pair check-pair-requires returns array-share-prefix-all slice-aggregate-found new-requires union-rows-requires
+    slice-aggregate-minimum-rows minimum-rows-requires add-words mul-words add-words-2 returns-2 slice-aggregate-write-table write-table-requires same-length returns-3)

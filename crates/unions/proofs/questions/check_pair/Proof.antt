@@ -11,13 +11,13 @@ check-image-requires : tie.Need-check-image-requires
 check-image-requires c κs = search needs
 
 returns : tie.Need-returns
-returns c = let s = c .before .before .before .before .args in no-first (s .a .now) (s .b .now) _ (c .before .check-image .ensures) refl (c .if1 .taken)
+returns c = let s = c .before .before .before .before .before .args in no-first (s .a .now) (s .b .now) _ _ (c .before .check-image .ensures) refl (c .if1 .taken)
 
 -- the first image is accepted, and the second
-first : (c : tie.Else1) → imageNumber maxRows (c .before .before .before .before .args .a .now) ≡ 0
+first : (c : tie.Else1) → imageNumber maxRows (c .before .before .before .before .before .args .a .now) ≡ 0
 first c = sym (c .before .check-image .ensures) ∙ c .if1 .left
 
-second : (c : tie.Else2) → imageNumber maxRows (c .before .before .before .before .before .before .args .b .now) ≡ 0
+second : (c : tie.Else2) → imageNumber maxRows (c .before .before .before .before .before .before .before .args .b .now) ≡ 0
 second c = sym (c .before .check-image2 .ensures) ∙ c .if2 .left
 
 check-image-requires-2 : tie.Need-check-image-requires-2
@@ -25,25 +25,35 @@ check-image-requires-2 c κs = search needs
 
 returns-2 : tie.Need-returns-2
 returns-2 c =
-    let s = c .before .before .before .before .before .before .args in
-    no-second (s .a .now) (s .b .now) _ (first (c .before .before)) (c .before .check-image2 .ensures) refl (c .if2 .taken)
+    let s = c .before .before .before .before .before .before .before .args in
+    no-second (s .a .now) (s .b .now) _ _ (first (c .before .before)) (c .before .check-image2 .ensures) refl (c .if2 .taken)
 
-union-ids-requires : tie.Need-union-ids-requires
-union-ids-requires c κs = (first (c .before .before), second c)
+both-ids-requires : tie.Need-both-ids-requires
+both-ids-requires c κs =
+    let q = c .before in
+    (first (q .before .before), second q, q .before .before .before .before .before .before .before .pre)
+
+same-length : tie.Need-same-length
+same-length c = search needs
 
 returns-3 : tie.Need-returns-3
 returns-3 c =
-    let q = c .before .before in
-    let s = q .before .before .before .before .before .before .args in
-    no-columns (s .a .now) (s .b .now) _ (first (q .before .before)) (second q) (c .before .union-ids .ensures) refl refl (c .if3 .taken)
+    let d = c .before .before .before .both-ids in
+    let q = c .before .before .before .before .before in
+    let s = q .before .before .before .before .before .before .before .args in
+    no-columns (s .a .now) (s .b .now) _ _ (first (q .before .before)) (second q) (d .ensures .0) (search needs) refl refl (c .if3 .taken)
+
+same-length-2 : tie.Need-same-length-2
+same-length-2 c = search needs
 
 returns-4 : tie.Need-returns-4
 returns-4 c =
-    let q = c .before .before in
-    let s = q .before .before .before .before .before .before .args in
-    yes (s .a .now) (s .b .now) _ (first (q .before .before)) (second q) (c .before .union-ids .ensures) refl (search needs)
+    let d = c .before .before .before .both-ids in
+    let q = c .before .before .before .before .before in
+    let s = q .before .before .before .before .before .before .before .args in
+    yes (s .a .now) (s .b .now) _ _ (first (q .before .before)) (second q) (d .ensures .0) (search needs) refl (search needs)
 
 pub check-pair-spec : {M : Type 1} → statement M
 check-pair-spec =
     tie.close
-    (tie.spec check-image-requires returns check-image-requires-2 returns-2 union-ids-requires returns-3 returns-4)
+    (tie.spec check-image-requires returns check-image-requires-2 returns-2 both-ids-requires same-length returns-3 same-length-2 returns-4)

@@ -1,18 +1,19 @@
-// The columns' words: for each column the set of the rows that are filled there, a bit a row.
+// The columns' words: for each column the set of the rows that are filled there, a bit a row. They tell of all rows at once which share a
+// filled column with a row, and which are filled wherever it is.
+use crate::bit;
 ghost use mathlib.Core.Path.{_≡_};
-ghost use mathlib.Core.Bool.{cond};
 ghost use mathlib.Core.List.{[]};
 ghost use Prim.Native.Nat.{_*_, _≤_, _<_};
 ghost use lib.ListN.{length};
 ghost use Rattle.definitions.specs.Limits.{maxUnionRows};
 ghost use Rattle.definitions.specs.Image.{rowsIn};
-ghost use Rattle.fusing.specs.Columns.{ColumnsOf, FilledRow};
+ghost use Rattle.patterns.specs.Columns.{blankOf, ColumnsOf, FilledRow};
 
-// The mark of a position: 1 if it is held.
-fn mark(held: bool) -> u64
-    ensures { λ r. ⌜ r ≡ cond held 1 0 ⌝ }
+// All rows for an empty cell, none for a filled one.
+pub fn blank(cell: u32) -> u64
+    ensures { λ r. ⌜ r ≡ blankOf cell ⌝ }
 {
-    if held { 1 } else { 0 }
+    if cell == 0 { 18446744073709551615 } else { 0 }
 }
 
 // Marks row j in the columns where it is filled.
@@ -22,7 +23,8 @@ fn mark_columns(row: &[u32], j: usize, columns: &mut [u64])
 {
     let mut c = 0;
     while c < row.len() {
-        columns[c] = columns[c] | (mark(row[c] != 0) << j);
+        let held = bit(row[c]) as u64;
+        columns[c] = columns[c] | (held << j);
         c += 1;
     }
 }

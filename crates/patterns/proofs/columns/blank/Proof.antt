@@ -1,7 +1,7 @@
 -- `blank` meets its contract: a return for each case. Assumes nothing.
-use Rattle.patterns.proofs.Marking.{blank-empty, blank-filled}
-use Rattle.patterns.proofs.marks.blank.Statement.{statement}
-use Rattle.patterns.proofs.marks.blank.Tie as tie
+use Rattle.patterns.proofs.FilledRows.{blank-empty, blank-filled}
+use Rattle.patterns.proofs.columns.blank.Statement.{statement}
+use Rattle.patterns.proofs.columns.blank.Tie as tie
 
 returns : tie.Need-returns
 returns c = blank-empty (c .before .args .cell) (c .if1 .taken)

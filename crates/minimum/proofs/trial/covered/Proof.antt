@@ -1,7 +1,7 @@
 -- `covered` meets its contract: an empty cell is one that is zero. Assumes nothing.
 use borrow.Author.Tests.{eq-eqb, ne-eqb}
-use Rattle.minimum.proofs.subsumption.covered.Statement.{statement}
-use Rattle.minimum.proofs.subsumption.covered.Tie as tie
+use Rattle.minimum.proofs.trial.covered.Statement.{statement}
+use Rattle.minimum.proofs.trial.covered.Tie as tie
 
 returns : tie.Need-returns
 returns c = rw (eq-eqb _ 0 (c .if1 .taken))

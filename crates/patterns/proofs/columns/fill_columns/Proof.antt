@@ -7,11 +7,11 @@ use native.Mathlib.Omega.{arith}
 use lib.ListN.{length}
 use Rattle.definitions.specs.Image.{rowsIn}
 use Rattle.lists.proofs.Flat.{row-fits}
-use Rattle.fusing.specs.Columns.{ColumnsOf}
-use Rattle.fusing.proofs.Parts.{part-length}
-use Rattle.fusing.proofs.FilledRows.{columns-more}
-use Rattle.fusing.proofs.columns.fill_columns.Statement.{statement}
-use Rattle.fusing.proofs.columns.fill_columns.Tie as tie
+use Rattle.patterns.specs.Columns.{ColumnsOf}
+use Rattle.patterns.proofs.Parts.{part-length}
+use Rattle.patterns.proofs.FilledRows.{columns-more}
+use Rattle.patterns.proofs.columns.fill_columns.Statement.{statement}
+use Rattle.patterns.proofs.columns.fill_columns.Tie as tie
 
 abbrev Inv-loop : tie.InvT-loop
 Inv-loop cells n width columns₀ j₀ at₀ columns j at =

@@ -1,11 +1,11 @@
--- `mark_columns` meets its contract. The loop's invariant: the first c columns hold row j.
+-- `mark_columns` meets its contract. The loop's invariant: the first c columns hold row j. Assumes nothing.
 use borrow.Author.Needs.{needs}
 use Prim.Native.Nat.{_-_, _≤_}
 use native.Mathlib.Omega.{arith}
 use lib.ListN.{length}
-use Rattle.fusing.proofs.FilledRows.{FilledTo, filled-to-none, filled-to-turn, filled-to-end}
-use Rattle.fusing.proofs.columns.mark_columns.Statement.{statement}
-use Rattle.fusing.proofs.columns.mark_columns.Tie as tie
+use Rattle.patterns.proofs.FilledRows.{FilledTo, filled-to-none, filled-to-turn, filled-to-end}
+use Rattle.patterns.proofs.columns.mark_columns.Statement.{statement}
+use Rattle.patterns.proofs.columns.mark_columns.Tie as tie
 
 abbrev Inv-loop : tie.InvT-loop
 Inv-loop row j columns₀ c₀ columns c = (c ≤ length row) × FilledTo row j columns₀ c columns
@@ -18,20 +18,23 @@ loop-holds c =
     let a = c .before .before .args in
     (search needs, filled-to-none (a .row .now) (a .j) (a .columns .now))
 
+mul-bit : tie.Need-mul-bit Inv-loop μ-loop
+mul-bit c = search needs
+
+shared-slice-read-bit : tie.Need-shared-slice-read-bit Inv-loop μ-loop
+shared-slice-read-bit c = search needs
+
+bit-requires : tie.Need-bit-requires Inv-loop μ-loop
+bit-requires c κs = search needs
+
+cast-held : tie.Need-cast-held Inv-loop μ-loop
+cast-held c = search needs
+
 mul-columns : tie.Need-mul-columns Inv-loop μ-loop
-mul-columns c = omega (arith, c .before .loop .inv .1 .size)
+mul-columns c = omega (arith, c .before .before .before .loop .inv .1 .size)
 
 slice-read-columns : tie.Need-slice-read-columns Inv-loop μ-loop
-slice-read-columns c = omega (arith, c .before .before .loop .inv .1 .size)
-
-mul-mark : tie.Need-mul-mark Inv-loop μ-loop
-mul-mark c = search needs
-
-shared-slice-read-mark : tie.Need-shared-slice-read-mark Inv-loop μ-loop
-shared-slice-read-mark c = search needs
-
-mark-requires : tie.Need-mark-requires Inv-loop μ-loop
-mark-requires c κs = search needs
+slice-read-columns c = omega (arith, c .before .before .before .before .loop .inv .1 .size)
 
 shl-columns : tie.Need-shl-columns Inv-loop μ-loop
 shl-columns c = search needs
@@ -50,10 +53,10 @@ loop-less c = search needs
 
 loop-again : tie.Need-loop-again Inv-loop μ-loop
 loop-again c =
-    let s = c .before .before .before .before .before .before .before in
-    let a = s .args in
+    let b = c .before .bit in
     let l = c .before .before .before .before .loop in
-    (search needs, filled-to-turn (a .row .now) (a .j) (a .columns .now) (l .c) (l .columns) (c .mark .result) (search needs) (c .mark .ensures) (l .inv .1))
+    let a = c .before .before .before .before .before .before .before .args in
+    (search needs, filled-to-turn (a .row .now) (a .j) (a .columns .now) (l .c) (l .columns) (b .result) (search needs) (b .ensures) (l .inv .1))
 
 same-length : tie.Need-same-length Inv-loop μ-loop
 same-length c = c .before .loop .inv .1 .size
@@ -72,11 +75,12 @@ mark-columns-spec =
     Inv-loop
     μ-loop
     loop-holds
+    mul-bit
+    shared-slice-read-bit
+    bit-requires
+    cast-held
     mul-columns
     slice-read-columns
-    mul-mark
-    shared-slice-read-mark
-    mark-requires
     shl-columns
     mul-columns-2
     slice-write-columns
