@@ -9,8 +9,9 @@ use bitsets::below;
 use bitsets::with_row;
 use merging::order_sets;
 use parts::list_parts;
-use search::MAX_ROWS;
-use search::MAX_SETS;
+pub use search::MAX_ROWS;
+pub use search::MAX_SETS;
+ghost use mathlib.Core.Path.{_≡_};
 ghost use Prim.Native.Nat.{suc, _≤_};
 ghost use lib.ListN.{length};
 ghost use Rattle.definitions.specs.Limits.{maxSets, maxUnionRows};
@@ -19,7 +20,7 @@ ghost use Rattle.cliques.specs.Graph.{Graph, AllSets};
 // Lists the maximal sets of the first n rows, and gives their number: of more than 1,024 it gives 1,025, and what the list holds is open.
 pub fn find_sets(neighbours: &[u64; MAX_ROWS], n: usize, list: &mut [u64; MAX_SETS + 1]) -> usize
     requires { ⌜ Graph (now neighbours) n × (n ≤ maxUnionRows) × (suc maxSets ≤ length (now list)) ⌝ }
-    ensures { λ r. ⌜ AllSets (now (neighbours .entry)) n (now (list .exit)) r ⌝ }
+    ensures { λ r. ⌜ (length (now (list .exit)) ≡ length (now (list .entry))) × AllSets (now (neighbours .entry)) n (now (list .exit)) r ⌝ }
 {
     if n == 0 {
         return 0;

@@ -20,10 +20,16 @@ use tables::Table;
 use tables::union_rows;
 
 // Lists the maximal sets of the first n rows; how many they are, at most 1,025. Each column's word holds the rows that are filled there.
-pub fn list_sets(cells: &[u32], n: usize, width: usize, columns: &[u64], list: &mut [u64]) -> usize
+pub fn list_sets(
+    cells: &[u32],
+    n: usize,
+    width: usize,
+    columns: &[u64],
+    list: &mut [u64; cliques::MAX_SETS + 1],
+) -> usize
     requires { ⌜ (n ≤ maxUnionRows) × (n * width ≤ length (now cells))
         × ColumnsOf (rowsIn width n (now cells)) width (now columns) × (suc maxSets ≤ length (now list)) ⌝ }
-    ensures { λ r. ⌜ SetsOf (rowsIn width n (now (cells .entry))) (now (list .exit)) r ⌝ }
+    ensures { λ r. ⌜ (length (now (list .exit)) ≡ length (now (list .entry))) × SetsOf (rowsIn width n (now (cells .entry))) (now (list .exit)) r ⌝ }
 {
     let mut neighbours = [0u64; Table::MAX_ROWS];
     fusing::fill_neighbours(cells, n, width, columns, &mut neighbours);
@@ -240,9 +246,9 @@ pub fn fuse_table<'a>(
 {
     let mut columns = [0u64; Table::MAX_COLUMNS];
     patterns::fill_columns(cells, n, width, &mut columns);
-    let mut list = [0u64; 1025];
+    let mut list = [0u64; cliques::MAX_SETS + 1];
     let count = list_sets(cells, n, width, &columns, &mut list);
-    if 1024 < count {
+    if cliques::MAX_SETS < count {
         return ComplementAnswer::Refused {
             number: 9,
             table: 2,

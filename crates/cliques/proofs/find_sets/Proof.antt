@@ -1,5 +1,5 @@
 -- `find_sets` lists all maximal sets: they are found part by part, and then put in order.
-use mathlib.Core.Path.{_≡_, refl}
+use mathlib.Core.Path.{_≡_, refl, _∙_}
 use Prim.Native.Nat.{_<_, _≤_}
 use native.Mathlib.Omega.{arith}
 use lib.ListN.{length}
@@ -32,7 +32,7 @@ module _ (k : tie.After-list-parts) where
 returns : tie.Need-returns
 returns c =
     let s = c .before .args in
-    none-found (s .neighbours .now) (s .n) (s .list .now) (c .if1 .taken)
+    (refl, none-found (s .neighbours .now) (s .n) (s .list .now) (c .if1 .taken))
 
 sub-last : tie.Need-sub-last
 sub-last c = search needs
@@ -53,9 +53,11 @@ returns-2 : tie.Need-returns-2
 returns-2 c =
     let k = c .before in
     let w = rows k in
-    let q = start w in
-    many-found (q .args .neighbours .now) (q .args .n) (q .pre .0) maxUnionRows (q .pre .1) (k .list-parts .last .1 .1 .0) (k .list-parts .result) (w .with-row .result) (some w) (room k)
-    (k .list-parts .ensures .0) (all w) (k .list-parts .ensures .2) (c .if2 .taken)
+    let q = start w in (
+      k .list-parts .ensures .1,
+      many-found (q .args .neighbours .now) (q .args .n) (q .pre .0) maxUnionRows (q .pre .1) (k .list-parts .last .1 .1 .0) (k .list-parts .result) (w .with-row .result) (some w) (room k)
+          (k .list-parts .ensures .0) (all w) (k .list-parts .ensures .2) (c .if2 .taken),
+    )
 
 order-sets-requires : tie.Need-order-sets-requires
 order-sets-requires c κs = let k = c .before .before in (omega (arith, c .before .if2 .left), room k)
@@ -64,10 +66,12 @@ returns-3 : tie.Need-returns-3
 returns-3 c =
     let k = c .before .before .before in
     let w = rows k in
-    let q = start w in
-    all-found (q .args .neighbours .now) (q .args .n) (q .pre .0) maxUnionRows (q .pre .1) (k .list-parts .last .1 .1 .0) (k .list-parts .result) (w .with-row .result) (some w) (room k)
-    (k .list-parts .ensures .0) (all w) (k .list-parts .ensures .2) (omega (arith, c .before .before .if2 .left)) (c .order-sets .last .0) (c .order-sets .result)
-    (omega (arith, room k, c .order-sets .kept .0, c .order-sets .ensures .0)) (c .order-sets .ensures .1)
+    let q = start w in (
+      c .order-sets .kept .0 ∙ k .list-parts .ensures .1,
+      all-found (q .args .neighbours .now) (q .args .n) (q .pre .0) maxUnionRows (q .pre .1) (k .list-parts .last .1 .1 .0) (k .list-parts .result) (w .with-row .result) (some w) (room k)
+          (k .list-parts .ensures .0) (all w) (k .list-parts .ensures .2) (omega (arith, c .before .before .if2 .left)) (c .order-sets .last .0) (c .order-sets .result)
+          (omega (arith, room k, c .order-sets .kept .0, c .order-sets .ensures .0)) (c .order-sets .ensures .1),
+    )
 
 pub find-sets-spec : {M : Type 1} → statement M
 find-sets-spec =

@@ -18,12 +18,6 @@ slice-aggregate-is-graph c = search needs
 is-graph-requires : tie.Need-is-graph-requires
 is-graph-requires c κs = search needs
 
-slice-aggregate-find-sets : tie.Need-slice-aggregate-find-sets
-slice-aggregate-find-sets c = search needs
-
-slice-aggregate-find-sets-2 : tie.Need-slice-aggregate-find-sets-2
-slice-aggregate-find-sets-2 c = search needs
-
 find-sets-requires : tie.Need-find-sets-requires
 find-sets-requires c κs =
     let g = c .before .before in
@@ -68,8 +62,6 @@ show-spec =
     write-all-requires
     slice-aggregate-is-graph
     is-graph-requires
-    slice-aggregate-find-sets
-    slice-aggregate-find-sets-2
     find-sets-requires
     print-decimal-requires
     slice-aggregate-write-all

@@ -2,6 +2,7 @@
 use mathlib.Core.Path.{sym}
 use Prim.Native.Nat.{_≤_}
 use native.Mathlib.Omega.{arith}
+use lib.ListN.{length}
 use lib.Seq.{length-take-le}
 use Rattle.definitions.specs.Limits.{maxSets}
 use Rattle.patterns.proofs.FilledRows.{columns-none}
@@ -22,9 +23,6 @@ fill-columns-requires c κs =
 slice-aggregate-list-sets : tie.Need-slice-aggregate-list-sets
 slice-aggregate-list-sets c = search needs
 
-slice-aggregate-list-sets-2 : tie.Need-slice-aggregate-list-sets-2
-slice-aggregate-list-sets-2 c = search needs
-
 list-sets-requires : tie.Need-list-sets-requires
 list-sets-requires c κs =
     let w = c .before .before .before .before .before .before .before .before .before .pre in
@@ -32,26 +30,31 @@ list-sets-requires c κs =
 
 returns : tie.Need-returns
 returns c =
-    let s = c .before .before .before .before .before .before .before .before .before .before .before .before in
-    many-fused (s .pre) (c .before .before .list-sets .ensures) (s .args .table .now) (s .args .sets .now) (c .if1 .taken)
+    let l = c .before in
+    let s = l .before .before .before .before .before .before .before .before .before .before in
+    many-fused (s .pre) (l .list-sets .ensures .1) (s .args .table .now) (s .args .sets .now) (c .if1 .taken)
 
 -- ---- the sets are listed
 
-few-sets : (c : tie.Else1) → c .before .before .list-sets .result ≤ maxSets
-few-sets c = omega (arith, c .if1 .left)
+module _ (c : tie.Else1) where
+  few-sets : c .before .list-sets .result ≤ maxSets
+  few-sets = omega (arith, c .if1 .left)
+
+  -- the list is as long as before
+  room : c .before .list-sets .result ≤ length (c .before .list-sets .last .1 .1 .1 .1 .0)
+  room = let size = c .before .list-sets .ensures .0 in omega (arith, few-sets)
 
 array-share-prefix-list : tie.Need-array-share-prefix-list
-array-share-prefix-list c = let few = few-sets c in search needs
+array-share-prefix-list c = room c
 
 slice-aggregate-all : tie.Need-slice-aggregate-all
 slice-aggregate-all c =
-    let l = c .before .before .before .list-sets in
-    let few = few-sets (c .before) in
-    sym (length-take-le (l .result) (l .last .1 .1 .1 .1 .0) (search needs))
+    let l = c .before .before .list-sets in
+    sym (length-take-le (l .result) (l .last .1 .1 .1 .1 .0) (room (c .before)))
 
 slice-aggregate-fuse-sets : tie.Need-slice-aggregate-fuse-sets
 slice-aggregate-fuse-sets c =
-    let s = c .before .before .before .before .before .before .before .before .before .before .before .before .before .before in
+    let s = c .before .before .before .before .before .before .before .before .before .before .before .before .before in
     sym (length-take-le (s .args .width) (s .args .ids .now) (s .pre .within-ids))
 
 slice-aggregate-fuse-sets-2 : tie.Need-slice-aggregate-fuse-sets-2
@@ -60,9 +63,9 @@ slice-aggregate-fuse-sets-2 c = search needs
 fuse-sets-requires : tie.Need-fuse-sets-requires
 fuse-sets-requires c κs =
     let q = c .before .before .before .before .before in
-    let f = q .before .before .before .before .before .before .fill-columns .ensures in
-    let few = few-sets q in
-    work-listed (q .before .before .before .before .before .before .before .before .before .before .before .before .pre) (q .before .before .list-sets .ensures) few (search needs) _ f
+    let l = q .before in
+    let f = l .before .before .before .before .fill-columns .ensures in
+    work-listed (l .before .before .before .before .before .before .before .before .before .before .pre) (l .list-sets .ensures .1) (few-sets q) (room q) _ f
 
 same-length : tie.Need-same-length
 same-length c = search needs
@@ -74,12 +77,13 @@ returns-2 : tie.Need-returns-2
 returns-2 c =
     let w = c .before .before .before .before in
     let q = w .before .before .before .before .before .before in
-    let s = q .before .before .before .before .before .before .before .before .before .before .before .before in
-    few-fused (s .pre) (q .before .before .list-sets .ensures) (s .args .table .now) (s .args .sets .now) (few-sets q) (w .fuse-sets .ensures)
+    let l = q .before in
+    let s = l .before .before .before .before .before .before .before .before .before .before in
+    few-fused (s .pre) (l .list-sets .ensures .1) (s .args .table .now) (s .args .sets .now) (few-sets q) (w .fuse-sets .ensures)
 
 pub fuse-table-spec : {M : Type 1} → statement M
 fuse-table-spec =
     tie.close
-    (tie.spec slice-aggregate-fill-columns fill-columns-requires slice-aggregate-list-sets slice-aggregate-list-sets-2 list-sets-requires returns
+    (tie.spec slice-aggregate-fill-columns fill-columns-requires slice-aggregate-list-sets list-sets-requires returns
     array-share-prefix-list slice-aggregate-all slice-aggregate-fuse-sets slice-aggregate-fuse-sets-2 fuse-sets-requires same-length same-length-2
     returns-2)

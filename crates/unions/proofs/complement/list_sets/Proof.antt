@@ -8,28 +8,23 @@ slice-aggregate-fill-neighbours : tie.Need-slice-aggregate-fill-neighbours
 slice-aggregate-fill-neighbours c = search needs
 
 fill-neighbours-requires : tie.Need-fill-neighbours-requires
-fill-neighbours-requires c κs = let p = c .before .before .before .before .pre in (p .0, p .1, p .2, search needs)
-
-slice-aggregate-find-sets : tie.Need-slice-aggregate-find-sets
-slice-aggregate-find-sets c = search needs
+fill-neighbours-requires c κs = let p = c .before .before .before .pre in (p .0, p .1, p .2, search needs)
 
 find-sets-requires : tie.Need-find-sets-requires
 find-sets-requires c κs =
     let n = c .before .before .before in
-    let q = n .before .before .before .before .before in
+    let q = n .before .before .before .before in
     let s = q .args in
-    (graph-for (s .width) (s .n) (s .cells .now) _ (n .fill-neighbours .ensures), q .pre .0, search needs)
-
-same-length : tie.Need-same-length
-same-length c = search needs
+    (graph-for (s .width) (s .n) (s .cells .now) _ (n .fill-neighbours .ensures), q .pre .0, q .pre .3)
 
 returns : tie.Need-returns
 returns c =
-    let n = c .before .before .before .before .before .before in
-    let s = n .before .before .before .before .before .args in
-    sets-of (s .width) (s .n) _ (s .cells .now) _ _ (n .fill-neighbours .ensures) (c .before .before .find-sets .ensures)
+    let n = c .before .before .before .before in
+    let s = n .before .before .before .before .args in
+    let f = c .find-sets .ensures in
+    (f .0, sets-of (s .width) (s .n) _ (s .cells .now) _ _ (n .fill-neighbours .ensures) (f .1))
 
 pub list-sets-spec : {M : Type 1} → statement M
 list-sets-spec =
     tie.close
-    (tie.spec slice-aggregate-fill-neighbours fill-neighbours-requires slice-aggregate-find-sets find-sets-requires same-length returns)
+    (tie.spec slice-aggregate-fill-neighbours fill-neighbours-requires find-sets-requires returns)
