@@ -30,7 +30,8 @@ line-first f (g ∷ fields) = ap (λ (r : List ℕ). f ++ (32 ∷ r)) (line-firs
 abbrev pub AtMost : ℕ → List (List ℕ) → Type 0
 AtMost most l = (f : List ℕ) → Stands f l → length f ≤ most
 
-pub at-most-map : {A : Type 0} (most : ℕ) (f : A → List ℕ) (l : List A) → ((x : A) → Stands x l → length (f x) ≤ most) → AtMost most (map f l)
+pub at-most-map : {A : Type 0} (most : ℕ) (f : A → List ℕ) (l : List A) → ((x : A) → Stands x l → length (f x) ≤ most)
+    → AtMost most (map f l)
 at-most-map most f l h g s =
     let i = map-stands f g l s in
     omega (arith, ap length (i .2), h (i .0) (i .1))
@@ -39,15 +40,28 @@ pub flatten-bound : (most : ℕ) (l : List (List ℕ)) → AtMost most l → len
 unfolding flatten
 flatten-bound most [] h = omega (arith, zero-mul most)
 flatten-bound most (f ∷ l) h =
-    omega (arith, length-append f (flatten l), suc-mul (length l) most, h f (inl refl), flatten-bound most l (λ g s. h g (inr s)))
+    omega (
+      arith,
+      length-append f (flatten l),
+      suc-mul (length l) most,
+      h f (inl refl),
+      flatten-bound most l (λ g s. h g (inr s)),
+    )
 
 later-bound : (most : ℕ) (fields : List (List ℕ)) → AtMost most fields → length (later fields) ≤ 1 + length fields * suc most
 later-bound most [] h = omega (arith, zero-mul (suc most))
 later-bound most (f ∷ fields) h =
-    omega (arith, length-append f (later fields), suc-mul (length fields) (suc most), h f (inl refl), later-bound most fields (λ g s. h g (inr s)))
+    omega (
+      arith,
+      length-append f (later fields),
+      suc-mul (length fields) (suc most),
+      h f (inl refl),
+      later-bound most fields (λ g s. h g (inr s)),
+    )
 
 -- numbers of at most five digits
-pub title-bound : (title numbers : List ℕ) → ((n : ℕ) → Stands n numbers → n < 10 ^ 5) → length (titleLine title numbers) ≤ length title + 1 + 6 * length numbers
+pub title-bound : (title numbers : List ℕ) → ((n : ℕ) → Stands n numbers → n < 10 ^ 5)
+    → length (titleLine title numbers) ≤ length title + 1 + 6 * length numbers
 title-bound title numbers h =
     omega (
       arith,
@@ -95,7 +109,8 @@ positions-front (p ∷ q ∷ ps) f fields h =
       positions-front (q ∷ ps) f fields (λ r s. h r (inr s)),
     )
 
-pub set-bound : (ps : List ℕ) (place : ℕ) → ((p : ℕ) → Stands p ps → p < 10 ^ 2) → place < 10 ^ 4 → length (setLine ps place) ≤ 3 * length ps + 7
+pub set-bound : (ps : List ℕ) (place : ℕ) → ((p : ℕ) → Stands p ps → p < 10 ^ 2) → place < 10 ^ 4
+    → length (setLine ps place) ≤ 3 * length ps + 7
 set-bound ps place h k =
     omega (
       arith,

@@ -39,7 +39,8 @@ module _ {A : Type 0} where
   unfolding below
   below-ext zero f g h = refl
   below-ext (suc n) f g h =
-      ap₂ (λ (y : A) (r : List A). y ∷ r) (h 0 (omega arith)) (below-ext n (λ k. f (suc k)) (λ k. g (suc k)) (λ k p. h (suc k) (omega arith)))
+      ap₂ (λ (y : A) (r : List A). y ∷ r) (h 0 (omega arith))
+      (below-ext n (λ k. f (suc k)) (λ k. g (suc k)) (λ k p. h (suc k) (omega arith)))
 
 -- ---- the marks of a record
 
@@ -102,7 +103,8 @@ module _ (t : List (List ℕ)) (rest : List ℕ) where
   pub records-read : rowsIn setWidth (length (unionSets t)) (drop 1 (setList t ++ rest)) ≡ map (setRecord t) (unionSets t)
   unfolding setList
   records-read =
-      ap (λ (n : ℕ). rowsIn setWidth n (flatten (map (setRecord t) (unionSets t)) ++ rest)) (sym (length-map (unionSets t) (setRecord t)))
+      ap (λ (n : ℕ). rowsIn setWidth n (flatten (map (setRecord t) (unionSets t)) ++ rest))
+      (sym (length-map (unionSets t) (setRecord t)))
       ∙ rows-read setWidth (map (setRecord t) (unionSets t)) rest
       (λ r h. let i = map-stands (setRecord t) r (unionSets t) h in ap (λ (l : List ℕ). length l) (i .2) ∙ record-length t (i .0))
 

@@ -14,13 +14,17 @@ use Rattle.definitions.specs.OuterUnion.{unionIds, unionRows}
 use Rattle.definitions.specs.MinimumUnion.{filled, minimumRows, pairsTried}
 use Rattle.definitions.specs.ComplementUnion.{unionSets, fusedRows}
 use Rattle.definitions.specs.SetList.{fusedPlace, setList}
-use Rattle.definitions.specs.Questions.{ask, hasHeader, columnsFit, rowsFit, lengthFits, columnsRight, idsDistinct, cellsRight, imageNumber}
+use Rattle.definitions.specs.Questions.{ask, hasHeader, columnsFit, rowsFit, lengthFits}
+use Rattle.definitions.specs.Questions.{columnsRight, idsDistinct, cellsRight, imageNumber}
 use Rattle.definitions.specs.Answer.{Outcome, done, refused, unless, no}
 use Rattle.definitions.specs.Calls.{pairNumber, fusedImage, complementOutcome}
 use Rattle.definitions.specs.Reading.{positionsOf}
 use Rattle.definitions.specs.Text.{ascii}
-use Rattle.definitions.specs.Listing.{line, columnsLine, unionTitle, minimumTitle, setsTitle, fusedTitle, rowLine, setLine, raggedLine}
-use Rattle.definitions.specs.Program.{maxBytes, wordsOf, rowLines, setLines, unionText, minimumText, setsText, fusedText, listing, lentTable, lentSets, answered, unionsText, readText, fuseText, rowBytes, setBytes, maxText}
+use Rattle.definitions.specs.Listing.{line, columnsLine, unionTitle, minimumTitle, setsTitle, fusedTitle}
+use Rattle.definitions.specs.Listing.{rowLine, setLine, raggedLine}
+use Rattle.definitions.specs.Program.{rowLines, setLines, unionText, minimumText, setsText, fusedText, listing}
+use Rattle.definitions.specs.Program.{maxBytes, wordsOf, lentTable, lentSets, answered, unionsText, readText, fuseText}
+use Rattle.definitions.specs.Program.{rowBytes, setBytes, maxText}
 use Rattle.definitions.specs.Statements.{Stands}
 use Rattle.definitions.proofs.Bools.{bool-cases}
 use Rattle.definitions.proofs.Subsumption.{empties, filled-empties}
@@ -31,7 +35,8 @@ use Rattle.definitions.proofs.Outcomes.{ComplementDone, complement-done
 use Rattle.definitions.proofs.Images.{accepted-rows}
 use Rattle.definitions.proofs.Reading.{listed-length, listed-place}
 use Rattle.definitions.proofs.TableWords.{small-ids}
-use Rattle.definitions.proofs.Lines.{at-most-map, flatten-bound, title-bound, row-bound, set-bound, positions-count, positions-small, refused-bound}
+use Rattle.definitions.proofs.Lines.{at-most-map, flatten-bound, title-bound, row-bound, refused-bound}
+use Rattle.definitions.proofs.Lines.{set-bound, positions-count, positions-small}
 
 -- ---- the listing of an accepted pair
 
@@ -39,7 +44,8 @@ use Rattle.definitions.proofs.Lines.{at-most-map, flatten-bound, title-
 module _ (c : ℕ) (rows : List (List ℕ)) (even : (r : List ℕ) → Stands r rows → length r ≡ c) (few : c ≤ maxColumns) where
   rows-bound : length (rowLines rows) ≤ rowBytes * length rows
   rows-bound =
-      omega (arith, flatten-bound rowBytes (map rowLine rows) (at-most-map rowBytes rowLine rows (λ r s. omega (arith, row-bound r, even r s))), length-map rows rowLine)
+      let short = at-most-map rowBytes rowLine rows (λ r s. omega (arith, row-bound r, even r s)) in
+      omega (arith, flatten-bound rowBytes (map rowLine rows) short, length-map rows rowLine)
 
   -- the number of filled cells is one of at most five digits
   filled-small : length rows ≤ maxSets → filled (flatten rows) < 10 ^ 5
@@ -98,7 +104,9 @@ module _ (a b : List ℕ) (room setRoom : ℕ) (values : List ℕ) (d : Compleme
       let one : (s : List Bool) → Stands s sets → length (setLine (positionsOf 0 s) (fusedPlace T s)) ≤ setBytes =
       λ s h.
       let size = listed-length T [] s h in
-      omega (arith, set-bound (positionsOf 0 s) (fusedPlace T s) (λ p k. omega (arith, positions-small 0 s p k)) (omega (arith, listed-place T [] few s h)), positions-count 0 s) in
+      let small : (p : ℕ) → Stands p (positionsOf 0 s) → p < 10 ^ 2 = λ p k. omega (arith, positions-small 0 s p k) in
+      let place = set-bound (positionsOf 0 s) (fusedPlace T s) small (omega (arith, listed-place T [] few s h)) in
+      omega (arith, place, positions-count 0 s) in
       let line-of : List Bool → List ℕ = λ s. setLine (positionsOf 0 s) (fusedPlace T s) in
       let lines = flatten-bound setBytes (map line-of sets) (at-most-map setBytes line-of sets one) in
       omega (arith, length-append (setsTitle (length sets)) (setLines T sets), lines, length-map sets line-of)
@@ -169,7 +177,8 @@ small-refusal a b room setRoom =
 
 -- ---- the whole text
 
-answered-bound : (a b : List ℕ) (o : Outcome) → complementOutcome a b lentTable lentSets ≡ o → SmallRefusal o → length (answered o (listing a b)) ≤ maxText
+answered-bound : (a b : List ℕ) (o : Outcome) → complementOutcome a b lentTable lentSets ≡ o → SmallRefusal o
+    → length (answered o (listing a b)) ≤ maxText
 answered-bound a b (done values) e s = listing-bound a b lentTable lentSets values (complement-done a b lentTable lentSets values .0 e)
 answered-bound a b (refused number table) e s = omega (arith, refused-bound number table (omega (arith, s .0)) (omega (arith, s .1)))
 

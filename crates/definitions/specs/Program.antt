@@ -13,7 +13,8 @@ use Rattle.definitions.specs.Answer.{Outcome, done, refused}
 use Rattle.definitions.specs.Calls.{complementOutcome}
 use Rattle.definitions.specs.Reading.{positionsOf}
 use Rattle.definitions.specs.Text.{ascii}
-use Rattle.definitions.specs.Listing.{columnsLine, unionTitle, minimumTitle, setsTitle, fusedTitle, rowLine, setLine, raggedLine, refusedLine}
+use Rattle.definitions.specs.Listing.{columnsLine, unionTitle, minimumTitle, setsTitle, fusedTitle}
+use Rattle.definitions.specs.Listing.{rowLine, setLine, raggedLine, refusedLine}
 
 -- ---- files
 
@@ -52,7 +53,8 @@ unionText a b =
 
 unfoldable pub minimumText : List ℕ → List ℕ → List ℕ
 minimumText a b =
-    minimumTitle (length (minimumRows (unionRows a b))) (filled (flatten (minimumRows (unionRows a b)))) (pairsTried (unionRows a b))
+    minimumTitle (length (minimumRows (unionRows a b))) (filled (flatten (minimumRows (unionRows a b))))
+    (pairsTried (unionRows a b))
     ++ rowLines (minimumRows (unionRows a b))
 
 unfoldable pub setsText : List ℕ → List ℕ → List ℕ
@@ -105,7 +107,8 @@ fuseText board plant = readText (take maxBytes board) (take maxBytes plant)
 abbrev pub rowBytes : ℕ
 rowBytes = 11 * maxColumns + 1
 
--- a set line: at most two digits a position and a byte behind each, `>`, a place of at most four digits, and the line's end
+-- a set line: at most two digits a position and a byte behind each, `>`, a space, a place of at most four digits,
+-- and the line's end
 abbrev pub setBytes : ℕ
 setBytes = 3 * maxUnionRows + 7
 

@@ -1,4 +1,5 @@
--- Document 01, "Complementation and complement union": the words of a set list, read. A record has m mark words and a row word.
+-- Document 01, "Complementation and complement union": the words of a set list, read.
+-- A record has m mark words and a row word.
 use Prim.Native.Nat.{ℕ, zero, suc, _+_, _*_, _/_, _%_, _^_}
 use mathlib.Core.Bool.{Bool, cond}
 use mathlib.Core.List.{List, [], _∷_, _++_}

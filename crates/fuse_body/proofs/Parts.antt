@@ -37,15 +37,20 @@ pub record Holds (ids : List ℕ) (rows : List (List ℕ)) (n : ℕ) (table : Li
   pub columns : imageIds table ≡ ids
   pub lines : tableLines table n ≡ rowLines rows
 
-holds : (ids : List ℕ) (rows : List (List ℕ)) (n : ℕ) (table rest : List ℕ) → Table ids rows → n ≡ length rows → table ≡ imageOf ids rows ++ rest
-    → Holds ids rows n table
+holds : (ids : List ℕ) (rows : List (List ℕ)) (n : ℕ) (table rest : List ℕ) → Table ids rows → n ≡ length rows
+    → table ≡ imageOf ids rows ++ rest → Holds ids rows n table
 holds ids rows n table rest t e w =
     subst (λ (k : ℕ). Holds ids rows k table) (sym e)
     (subst (λ (x : List ℕ). Holds ids rows (length rows) x) (sym w)
-    (record { within = table-front ids rows t rest; columns = ids-front ids rows t rest; lines = ap rowLines (rows-front ids rows t rest) }))
+    (record {
+      within = table-front ids rows t rest;
+      columns = ids-front ids rows t rest;
+      lines = ap rowLines (rows-front ids rows t rest);
+    }))
 
 -- a done call has left its result
-left : (o : Outcome) (values image found table : List ℕ) → done values ≡ o → table ≡ afterwards o image found → table ≡ image ++ drop (length image) found
+left : (o : Outcome) (values image found table : List ℕ) → done values ≡ o → table ≡ afterwards o image found
+    → table ≡ image ++ drop (length image) found
 left o values image found table e w = w ∙ ap (λ (x : Outcome). afterwards x image found) (sym e)
 
 module _ (a b : List ℕ) where
@@ -66,14 +71,15 @@ module _ (a b : List ℕ) where
       → table ≡ afterwards (outerOutcome a b room) (outerImage a b) found → UnionWords table rows count
   unfolding outerImage unionText
   union-words found table room rows words count e w =
-      let d = outer-done a b room (rows ∷ words ∷ count ∷ []) .0 (sym e) in
+      let values : List ℕ = rows ∷ words ∷ count ∷ [] in
+      let d = outer-done a b room values .0 (sym e) in
       let carries = d .carries in
       let n : rows ≡ length T = cc in
       let m : count ≡ filled (flatten T) = cc in
       let fits = accepted-rows a b (d .accepted) in
       let t : Table (unionIds a b) T =
       record { few-ids = d .accepted .columns; small-id = small-ids a b; few-rows = omega (arith, fits); even = rows-even a b } in
-      let h = holds (unionIds a b) T rows table _ t n (left (outerOutcome a b room) (rows ∷ words ∷ count ∷ []) (outerImage a b) found table e w) in
+      let h = holds (unionIds a b) T rows table _ t n (left (outerOutcome a b room) values (outerImage a b) found table e w) in
       record {
         within = h .within;
         text = ap₂ (λ (ids lines : List ℕ). columnsLine ids ++ (unionTitle rows count ++ lines)) (h .columns) (h .lines)
@@ -86,20 +92,28 @@ module _ (a b : List ℕ) where
     pub within : 1 + columnCount table + rows * columnCount table ≤ length table
     pub text : minimumTitle rows count pairs ++ tableLines table rows ≡ minimumText a b
 
-  pub minimum-words : (found table : List ℕ) (room rows words count pairs : ℕ) → done (rows ∷ words ∷ count ∷ pairs ∷ []) ≡ minimumOutcome a b room
+  pub minimum-words : (found table : List ℕ) (room rows words count pairs : ℕ)
+      → done (rows ∷ words ∷ count ∷ pairs ∷ []) ≡ minimumOutcome a b room
       → table ≡ afterwards (minimumOutcome a b room) (minimumImage a b) found → MinimumWords table rows count pairs
   unfolding minimumImage minimumText
   minimum-words found table room rows words count pairs e w =
       let M = minimumRows T in
-      let d = minimum-done a b room (rows ∷ words ∷ count ∷ pairs ∷ []) .0 (sym e) in
+      let values : List ℕ = rows ∷ words ∷ count ∷ pairs ∷ [] in
+      let d = minimum-done a b room values .0 (sym e) in
       let carries = d .carries in
       let n : rows ≡ length M = cc in
       let m : count ≡ filled (flatten M) = cc in
       let p : pairs ≡ pairsTried T = cc in
       let fits = accepted-rows a b (d .accepted) in
       let t : Table (unionIds a b) M =
-      record { few-ids = d .accepted .columns; small-id = small-ids a b; few-rows = omega (arith, fits, minimum-count T); even = minimum-even } in
-      let h = holds (unionIds a b) M rows table _ t n (left (minimumOutcome a b room) (rows ∷ words ∷ count ∷ pairs ∷ []) (minimumImage a b) found table e w) in
+      record {
+        few-ids = d .accepted .columns;
+        small-id = small-ids a b;
+        few-rows = omega (arith, fits, minimum-count T);
+        even = minimum-even;
+      } in
+      let h = holds (unionIds a b) M rows table _ t n
+      (left (minimumOutcome a b room) values (minimumImage a b) found table e w) in
       record {
         within = h .within;
         text = ap (λ (lines : List ℕ). minimumTitle rows count pairs ++ lines) (h .lines)
@@ -122,28 +136,36 @@ module _ (a b : List ℕ) where
   done-minimum i number table e =
       let accepted = complement-done a b lentTable lentSets (i .0) .0 (i .1) .accepted in
       let most = accepted-rows a b accepted in
-      let room = table-words (unionIds a b) (minimumRows T) maxUnionRows minimum-even (accepted .columns) (omega (arith, most, minimum-count T)) in
+      let room = table-words (unionIds a b) (minimumRows T) maxUnionRows minimum-even (accepted .columns)
+      (omega (arith, most, minimum-count T)) in
       let is = minimum-done a b lentTable _ .1 (record { accepted = accepted; table-room = omega (arith, room); carries = refl }) in
       let z : _≡_ {A = ℕ} 0 1 = cc in omega arith
 
-  pub not-refused-outer : {A : Type 0} → IsDone a b → (room number table : ℕ) → room ≡ lentTable → refused number table ≡ outerOutcome a b room → A
+  pub not-refused-outer : {A : Type 0} → IsDone a b → (room number table : ℕ) → room ≡ lentTable
+      → refused number table ≡ outerOutcome a b room → A
   not-refused-outer i room number table h e = absurd (done-outer i number table (e ∙ ap (outerOutcome a b) h))
 
-  pub not-refused-minimum : {A : Type 0} → IsDone a b → (room number table : ℕ) → room ≡ lentTable → refused number table ≡ minimumOutcome a b room → A
+  pub not-refused-minimum : {A : Type 0} → IsDone a b → (room number table : ℕ) → room ≡ lentTable
+      → refused number table ≡ minimumOutcome a b room → A
   not-refused-minimum i room number table h e = absurd (done-minimum i number table (e ∙ ap (minimumOutcome a b) h))
 
   -- ---- the sets and the fused table
 
   module _ (values : List ℕ) (d : ComplementDone a b lentTable lentSets values) where
-    record-text : (s : List Bool) → Stands s (unionSets T) → recordLine (setRecord T s) ≡ setLine (positionsOf 0 s) (fusedPlace T s)
+    -- the line of a set
+    abbrev lineOf : List Bool → List ℕ
+    lineOf s = setLine (positionsOf 0 s) (fusedPlace T s)
+
+    record-text : (s : List Bool) → Stands s (unionSets T) → recordLine (setRecord T s) ≡ lineOf s
     record-text s h =
-        ap₂ setLine (positions-read T s (omega (arith, listed-length T [] s h, accepted-rows a b (d .accepted)))) (place-read T s (listed-place T [] (d .few-sets) s h))
+        ap₂ setLine (positions-read T s (omega (arith, listed-length T [] s h, accepted-rows a b (d .accepted))))
+        (place-read T s (listed-place T [] (d .few-sets) s h))
 
     list-lines : (rest : List ℕ) → recordLines (setList T ++ rest) (length (unionSets T)) ≡ setLines T (unionSets T)
     list-lines rest =
         ap (λ (l : List (List ℕ)). flatten (map recordLine l)) (records-read T rest)
         ∙ ap flatten (map-map recordLine (setRecord T) (unionSets T)
-        ∙ map-ext (λ (s : List Bool). recordLine (setRecord T s)) (λ (s : List Bool). setLine (positionsOf 0 s) (fusedPlace T s)) (unionSets T) record-text)
+        ∙ map-ext (λ (s : List Bool). recordLine (setRecord T s)) lineOf (unionSets T) record-text)
 
     sets-text : (sets rest : List ℕ) (count : ℕ) → sets ≡ setList T ++ rest → count ≡ length (unionSets T)
         → setsTitle count ++ recordLines sets count ≡ setsText a b
@@ -154,7 +176,8 @@ module _ (a b : List ℕ) where
 
   pub fused-words : (o : Outcome) (found foundSets fused sets : List ℕ) (rows words count number setWords : ℕ)
       → o ≡ complementOutcome a b lentTable lentSets → done (rows ∷ words ∷ count ∷ number ∷ setWords ∷ []) ≡ o
-      → fused ≡ afterwards o (fusedImage a b) found → sets ≡ afterwards o (setList T) foundSets → FusedWords a b fused rows count sets number
+      → fused ≡ afterwards o (fusedImage a b) found → sets ≡ afterwards o (setList T) foundSets
+      → FusedWords a b fused rows count sets number
   unfolding fusedImage fusedText
   fused-words o found foundSets fused sets rows words count number setWords q e w l =
       let values : List ℕ = rows ∷ words ∷ count ∷ number ∷ setWords ∷ [] in
@@ -176,8 +199,10 @@ module _ (a b : List ℕ) where
       record {
         is-done = (values, sym (e ∙ q));
         table-within = h .within;
-        table-text = ap (λ (lines : List ℕ). fusedTitle rows count ++ lines) (h .lines) ∙ ap₂ (λ (r f : ℕ). fusedTitle r f ++ rowLines F) n m;
-        list-within = omega (arith, k, ap length list, length-append (setList T) (drop (length (setList T)) foundSets), set-list-length T);
+        table-text = ap (λ (lines : List ℕ). fusedTitle rows count ++ lines) (h .lines)
+            ∙ ap₂ (λ (r f : ℕ). fusedTitle r f ++ rowLines F) n m;
+        list-within =
+            omega (arith, k, ap length list, length-append (setList T) (drop (length (setList T)) foundSets), set-list-length T);
         list-text = sets-text values d sets _ number list k;
       }
 

@@ -24,7 +24,8 @@ use Rattle.fuse_body.specs.Promise.{TextPromise}
 -- ---- two images
 
 module _ (a b : List ℕ) where
-  pub refused-text : (number table : ℕ) → refused number table ≡ complementOutcome a b lentTable lentSets → refusedLine number table ≡ unionsText a b
+  pub refused-text : (number table : ℕ) → refused number table ≡ complementOutcome a b lentTable lentSets
+      → refusedLine number table ≡ unionsText a b
   unfolding unionsText
   refused-text number table e = ap (λ (o : Outcome). answered o (listing a b)) e
 
@@ -84,8 +85,8 @@ module _ (board plant found : List ℕ) where
       }
 
 -- a done answer's bytes are in the buffer
-pub done-within : (board plant found : List ℕ) (answer : TextAnswer) (n : ℕ) (after : List ℕ) → answer ≡ Done n → TextPromise board plant found answer after
-    → length after ≡ length found → n ≤ length after
+pub done-within : (board plant found : List ℕ) (answer : TextAnswer) (n : ℕ) (after : List ℕ) → answer ≡ Done n
+    → TextPromise board plant found answer after → length after ≡ length found → n ≤ length after
 done-within board plant found answer n after is p h =
     bool-cases (leb maxText (length found))
     (λ e.

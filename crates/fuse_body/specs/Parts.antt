@@ -15,7 +15,8 @@ use Rattle.listing.specs.Lines.{tableLines, recordLines}
 abbrev pub IsDone : List ℕ → List ℕ → Type 0
 IsDone a b = (values : List ℕ) × (complementOutcome a b lentTable lentSets ≡ done values)
 
--- complement union of the pair is done, and these are its fused table, with so many rows and filled cells, and its set list, with so many sets
+-- complement union of the pair is done, and these are its fused table, with so many rows and filled cells,
+-- and its set list, with so many sets
 pub record FusedWords (a b fused : List ℕ) (rows filled : ℕ) (sets : List ℕ) (count : ℕ) : Type 0 where
   pub is-done : IsDone a b
   pub table-within : 1 + columnCount fused + rows * columnCount fused ≤ length fused

@@ -1,7 +1,7 @@
 // The whole text of the program, from the bytes of two files.
 ghost use Prim.Native.Nat.{_≤_, min};
 ghost use mathlib.Core.Path.{_≡_};
-ghost use lib.ListN.{length, take};
+ghost use lib.ListN.{length};
 ghost use Rattle.definitions.specs.Program.{maxBytes, maxText, lentTable, lentSets, unionsText, readText, fuseText};
 ghost use Rattle.text.specs.Written.{Written};
 ghost use Rattle.fuse_body.specs.Promise.{TextPromise};
@@ -12,9 +12,9 @@ use listing::ragged_line;
 use listing::refused_line;
 
 // "It reads at most 2,120 bytes a file": 530 words.
-pub const BYTES: usize = 2120;
+pub(crate) const BYTES: usize = 2120;
 
-pub const WORDS: usize = 530;
+const WORDS: usize = 530;
 
 // "It lends 16,384 words for the table and 4,100 for the sets."
 const TABLE: usize = 16384;
@@ -39,9 +39,11 @@ fn put_unions(
     table: &mut [u32],
     out: &mut [u8],
 ) -> usize
-    requires { ⌜ (length (now fused) ≡ lentTable) × (length (now sets) ≡ lentSets) × (length (now table) ≡ lentTable) ⌝ }
+    requires { ⌜ (length (now fused) ≡ lentTable) × (length (now sets) ≡ lentSets)
+        × (length (now table) ≡ lentTable) ⌝ }
     requires { ⌜ maxText ≤ length (now out) ⌝ }
-    ensures { λ r. ⌜ Written (now (out .entry)) 0 (unionsText (now (a .entry)) (now (b .entry))) (now (out .exit)) r ⌝ }
+    ensures { λ r. ⌜ Written (now (out .entry)) 0
+        (unionsText (now (a .entry)) (now (b .entry))) (now (out .exit)) r ⌝ }
 {
     let answer = unions::complement_union(a, b, fused, sets);
     match answer {
@@ -59,7 +61,8 @@ fn put_unions(
 // Lends the buffers.
 fn put_images(a: &[u32], b: &[u32], out: &mut [u8]) -> usize
     requires { ⌜ maxText ≤ length (now out) ⌝ }
-    ensures { λ r. ⌜ Written (now (out .entry)) 0 (unionsText (now (a .entry)) (now (b .entry))) (now (out .exit)) r ⌝ }
+    ensures { λ r. ⌜ Written (now (out .entry)) 0
+        (unionsText (now (a .entry)) (now (b .entry))) (now (out .exit)) r ⌝ }
 {
     let mut fused = [0u32; TABLE];
     let mut sets = [0u32; SETS];
@@ -69,8 +72,10 @@ fn put_images(a: &[u32], b: &[u32], out: &mut [u8]) -> usize
 
 // The text for the bytes read.
 fn put_read(board: &[u8], plant: &[u8], out: &mut [u8]) -> usize
-    requires { ⌜ (length (now board) ≤ maxBytes) × (length (now plant) ≤ maxBytes) × (maxText ≤ length (now out)) ⌝ }
-    ensures { λ r. ⌜ Written (now (out .entry)) 0 (readText (now (board .entry)) (now (plant .entry))) (now (out .exit)) r ⌝ }
+    requires { ⌜ (length (now board) ≤ maxBytes) × (length (now plant) ≤ maxBytes)
+        × (maxText ≤ length (now out)) ⌝ }
+    ensures { λ r. ⌜ Written (now (out .entry)) 0
+        (readText (now (board .entry)) (now (plant .entry))) (now (out .exit)) r ⌝ }
 {
     if board.len() % 4 != 0 {
         return ragged_line(out, 0, b"board.tbl");
@@ -95,9 +100,11 @@ fn read_length(size: usize) -> usize
     BYTES
 }
 
-// The whole output of `fuse` for the bytes of the two files goes to the front of `out`, which is lent MAX_TEXT bytes or more.
+// The whole output of `fuse` for the bytes of the two files goes to the front of `out`. A buffer of fewer than MAX_TEXT bytes stays as it
+// is, whatever the text: so no output depends on how long a buffer was lent.
 pub fn fuse_text(board: &[u8], plant: &[u8], out: &mut [u8]) -> TextAnswer
-    ensures { λ r. ⌜ TextPromise (now (board .entry)) (now (plant .entry)) (now (out .entry)) r (now (out .exit)) ⌝ }
+    ensures { λ r. ⌜ TextPromise (now (board .entry)) (now (plant .entry))
+        (now (out .entry)) r (now (out .exit)) ⌝ }
 {
     if out.len() < MAX_TEXT {
         return TextAnswer::TooShort;

@@ -12,7 +12,7 @@ fn word(a: u8, b: u8, c: u8, d: u8) -> u32
 }
 
 // Puts the words of `bytes` at the start of `words`, and answers how many they are.
-pub fn decode(bytes: &[u8], words: &mut [u32]) -> usize
+pub(crate) fn decode(bytes: &[u8], words: &mut [u32]) -> usize
     requires { ⌜ length (now bytes) ≤ 4 * length (now words) ⌝ }
     ensures within { λ r. ⌜ r ≤ length (now (words .exit)) ⌝ }
     ensures { λ r. ⌜ take r (now (words .exit)) ≡ wordsOf (now (bytes .entry)) ⌝ }

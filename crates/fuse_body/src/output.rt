@@ -1,6 +1,4 @@
 // A run of the program: it reads two files, and writes the whole output.
-ghost use Prim.Native.Nat.{_≤_};
-ghost use lib.ListN.{length};
 ghost use Rattle.io.specs.Counts.{Counts};
 use crate::answer::BYTES;
 use crate::answer::MAX_TEXT;
@@ -21,7 +19,7 @@ fn read_bytes(path: &[u8], bytes: &mut [u8]) -> usize
     n
 }
 
-// Writes the output for the bytes of two files. The buffer is long enough, so that nothing is cut.
+// Writes the output for the bytes of two files. `run` lends MAX_TEXT bytes, so that no buffer is too short and nothing is cut.
 fn write_text(board: &[u8], plant: &[u8], out: &mut [u8]) {
     let answer = fuse_text(board, plant, out);
     match answer {

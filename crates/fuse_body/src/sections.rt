@@ -12,11 +12,12 @@ use listing::minimum_lines;
 use listing::sets_lines;
 use listing::union_lines;
 
-// The columns and T. Where complement union isn't refused, outer union isn't.
-pub fn put_union(a: &[u32], b: &[u32], table: &mut [u32], out: &mut [u8], at: usize) -> usize
+// The columns and T. Where complement union isn't refused, outer union isn't: the first arm is never taken.
+fn put_union(a: &[u32], b: &[u32], table: &mut [u32], out: &mut [u8], at: usize) -> usize
     requires { ⌜ IsDone (now a) (now b) × (length (now table) ≡ lentTable) ⌝ }
     requires { ⌜ at + length (unionText (now a) (now b)) ≤ length (now out) ⌝ }
-    ensures { λ r. ⌜ Written (now (out .entry)) at (unionText (now (a .entry)) (now (b .entry))) (now (out .exit)) r ⌝ }
+    ensures { λ r. ⌜ Written (now (out .entry)) at
+        (unionText (now (a .entry)) (now (b .entry))) (now (out .exit)) r ⌝ }
 {
     let answer = unions::outer_union(a, b, table);
     match answer {
@@ -32,11 +33,12 @@ pub fn put_union(a: &[u32], b: &[u32], table: &mut [u32], out: &mut [u8], at: us
     }
 }
 
-// The minimum union. Where complement union isn't refused, minimum union isn't.
-pub fn put_minimum(a: &[u32], b: &[u32], table: &mut [u32], out: &mut [u8], at: usize) -> usize
+// The minimum union. Where complement union isn't refused, minimum union isn't: the first arm is never taken.
+fn put_minimum(a: &[u32], b: &[u32], table: &mut [u32], out: &mut [u8], at: usize) -> usize
     requires { ⌜ IsDone (now a) (now b) × (length (now table) ≡ lentTable) ⌝ }
     requires { ⌜ at + length (minimumText (now a) (now b)) ≤ length (now out) ⌝ }
-    ensures { λ r. ⌜ Written (now (out .entry)) at (minimumText (now (a .entry)) (now (b .entry))) (now (out .exit)) r ⌝ }
+    ensures { λ r. ⌜ Written (now (out .entry)) at
+        (minimumText (now (a .entry)) (now (b .entry))) (now (out .exit)) r ⌝ }
 {
     let answer = unions::minimum_union(a, b, table);
     match answer {
@@ -54,7 +56,7 @@ pub fn put_minimum(a: &[u32], b: &[u32], table: &mut [u32], out: &mut [u8], at: 
 }
 
 // The whole listing, where complement union left these words.
-pub fn put_listing(
+pub(crate) fn put_listing(
     a: &[u32],
     b: &[u32],
     fused: &[u32],
@@ -67,7 +69,8 @@ pub fn put_listing(
 ) -> usize
     requires { ⌜ FusedWords (now a) (now b) (now fused) rows filled (now sets) count ⌝ }
     requires { ⌜ (length (now table) ≡ lentTable) × (length (listing (now a) (now b)) ≤ length (now out)) ⌝ }
-    ensures { λ r. ⌜ Written (now (out .entry)) 0 (listing (now (a .entry)) (now (b .entry))) (now (out .exit)) r ⌝ }
+    ensures { λ r. ⌜ Written (now (out .entry)) 0
+        (listing (now (a .entry)) (now (b .entry))) (now (out .exit)) r ⌝ }
 {
     let mut end = put_union(a, b, table, out, 0);
     end = put_minimum(a, b, table, out, end);

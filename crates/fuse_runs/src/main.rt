@@ -7,7 +7,8 @@ fn run_case(title: &[u8], board: &[u8], plant: &[u8]) {
     fuse_body::run(board, plant);
 }
 
-fn main() {
+// Pairs that are accepted.
+fn listings() {
     run_case(
         b"two tables without rows:\n",
         b"no_rows/board.tbl",
@@ -28,6 +29,10 @@ fn main() {
         b"full_tables/board.tbl",
         b"full_tables/plant.tbl",
     );
+}
+
+// A missing file is empty.
+fn missing_files() {
     run_case(
         b"board.tbl is missing:\n",
         b"no_board/board.tbl",
@@ -38,6 +43,10 @@ fn main() {
         b"no_plant/board.tbl",
         b"no_plant/plant.tbl",
     );
+}
+
+// Files whose bytes make no whole number of words, and a file that is longer than what is read of it.
+fn ragged_files() {
     run_case(
         b"board.tbl has a byte too many:\n",
         b"ragged_board/board.tbl",
@@ -58,6 +67,10 @@ fn main() {
         b"long_file/board.tbl",
         b"long_file/plant.tbl",
     );
+}
+
+// Pairs that complement union refuses.
+fn refusals() {
     run_case(
         b"33 rows:\n",
         b"refused_3/board.tbl",
@@ -78,4 +91,11 @@ fn main() {
         b"refused_10/board.tbl",
         b"refused_10/plant.tbl",
     );
+}
+
+fn main() {
+    listings();
+    missing_files();
+    ragged_files();
+    refusals();
 }

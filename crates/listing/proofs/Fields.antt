@@ -34,7 +34,8 @@ end-fits w = omega (arith, rest-fits w)
 
 -- ---- the fields of a list, one by one
 
-module _ (f : ℕ → List ℕ) (l : List ℕ) (i : ℕ) {b m whole : List ℕ} {at mid : ℕ} (w : Writing b at whole (later (map f (drop i l))) m mid) where
+module _ (f : ℕ → List ℕ) (l : List ℕ) (i : ℕ) {b m whole : List ℕ} {at mid : ℕ}
+    (w : Writing b at whole (later (map f (drop i l))) m mid) where
   next-field : i < length l → Writing b at whole (later (f (getD l i 0) ∷ map f (drop (i + 1) l))) m mid
   next-field h =
       rest-as (ap (λ (x : List ℕ). later (map f x)) (drop-cons l i 0 h ∙ ap (λ (k : ℕ). getD l i 0 ∷ drop k l) (sym (add-one i)))) w

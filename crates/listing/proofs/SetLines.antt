@@ -64,7 +64,8 @@ marks-end words p h w =
 -- ---- the line
 
 -- fields with at least one among them, after another field
-later-some : (ps : List ℕ) (f : List ℕ) (fields : List (List ℕ)) → later (map decimal ps ++ (f ∷ fields)) ≡ 32 ∷ line (map decimal ps ++ (f ∷ fields))
+later-some : (ps : List ℕ) (f : List ℕ) (fields : List (List ℕ))
+    → later (map decimal ps ++ (f ∷ fields)) ≡ 32 ∷ line (map decimal ps ++ (f ∷ fields))
 later-some [] f fields = ap (λ (l : List ℕ). 32 ∷ l) (sym (line-first f fields))
 later-some (p ∷ ps) f fields = ap (λ (l : List ℕ). 32 ∷ l) (sym (line-first (decimal p) (map decimal ps ++ (f ∷ fields))))
 
@@ -73,7 +74,8 @@ unfolding listed
 set-text [] place = line-first (ascii ">") (decimal place ∷ [])
 set-text (p ∷ ps) place =
     line-first (decimal p) (map decimal ps ++ (ascii ">" ∷ decimal place ∷ []))
-    ∙ ap (λ (l : List ℕ). decimal p ++ l) (later-some ps (ascii ">") (decimal place ∷ []) ∙ ap (λ (l : List ℕ). 32 ∷ l) (set-text ps place))
+    ∙ ap (λ (l : List ℕ). decimal p ++ l)
+    (later-some ps (ascii ">") (decimal place ∷ []) ∙ ap (λ (l : List ℕ). 32 ∷ l) (set-text ps place))
     ∙ sym (append-assoc (decimal p) (32 ∷ listed ps) (62 ∷ later (decimal place ∷ [])))
 
 module _ (b : List ℕ) (at : ℕ) (words : List ℕ) (h : at + length (recordLine words) ≤ length b) where

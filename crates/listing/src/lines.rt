@@ -13,9 +13,10 @@ use text::put_cell;
 use text::put_text;
 
 // A title line: a word and numbers.
-pub fn title_line(out: &mut [u8], at: usize, title: &[u8], numbers: &[usize]) -> usize
+pub(crate) fn title_line(out: &mut [u8], at: usize, title: &[u8], numbers: &[usize]) -> usize
     requires { ⌜ at + length (titleLine (now title) (now numbers)) ≤ length (now out) ⌝ }
-    ensures { λ r. ⌜ Written (now (out .entry)) at (titleLine (now (title .entry)) (now (numbers .entry))) (now (out .exit)) r ⌝ }
+    ensures { λ r. ⌜ Written (now (out .entry)) at
+        (titleLine (now (title .entry)) (now (numbers .entry))) (now (out .exit)) r ⌝ }
 {
     let mut end = put_text(out, at, title);
     let mut i = 0;
@@ -27,9 +28,10 @@ pub fn title_line(out: &mut [u8], at: usize, title: &[u8], numbers: &[usize]) ->
 }
 
 // The columns' line: the ids of the column words.
-pub fn columns_line(out: &mut [u8], at: usize, columns: &[u32]) -> usize
+pub(crate) fn columns_line(out: &mut [u8], at: usize, columns: &[u32]) -> usize
     requires { ⌜ at + length (columnsLine (map idOf (now columns))) ≤ length (now out) ⌝ }
-    ensures { λ r. ⌜ Written (now (out .entry)) at (columnsLine (map idOf (now (columns .entry)))) (now (out .exit)) r ⌝ }
+    ensures { λ r. ⌜ Written (now (out .entry)) at
+        (columnsLine (map idOf (now (columns .entry)))) (now (out .exit)) r ⌝ }
 {
     let mut end = put_text(out, at, b"columns");
     let mut i = 0;
@@ -41,7 +43,7 @@ pub fn columns_line(out: &mut [u8], at: usize, columns: &[u32]) -> usize
 }
 
 // A row's line: its cells.
-pub fn row_line(out: &mut [u8], at: usize, cells: &[u32]) -> usize
+pub(crate) fn row_line(out: &mut [u8], at: usize, cells: &[u32]) -> usize
     requires { ⌜ at + length (rowLine (now cells)) ≤ length (now out) ⌝ }
     ensures { λ r. ⌜ Written (now (out .entry)) at (rowLine (now (cells .entry))) (now (out .exit)) r ⌝ }
 {

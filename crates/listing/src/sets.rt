@@ -36,7 +36,8 @@ fn put_mark(out: &mut [u8], at: usize, bit: u32, position: usize) -> usize
 fn put_positions(out: &mut [u8], at: usize, set: &[u32]) -> usize
     requires { ⌜ length (now set) ≡ setWidth ⌝ }
     requires { ⌜ at + length (listed (positionsOf 0 (setIn markWords (now set)))) ≤ length (now out) ⌝ }
-    ensures { λ r. ⌜ Written (now (out .entry)) at (listed (positionsOf 0 (setIn markWords (now (set .entry))))) (now (out .exit)) r ⌝ }
+    ensures { λ r. ⌜ Written (now (out .entry)) at
+        (listed (positionsOf 0 (setIn markWords (now (set .entry))))) (now (out .exit)) r ⌝ }
 {
     let mut end = at;
     let mut p = 0;
@@ -62,7 +63,8 @@ fn set_line(out: &mut [u8], at: usize, set: &[u32]) -> usize
 pub fn sets_lines(out: &mut [u8], at: usize, list: &[u32], count: usize) -> usize
     requires { ⌜ 1 + count * setWidth ≤ length (now list) ⌝ }
     requires { ⌜ at + length (setsTitle count ++ recordLines (now list) count) ≤ length (now out) ⌝ }
-    ensures { λ r. ⌜ Written (now (out .entry)) at (setsTitle count ++ recordLines (now (list .entry)) count) (now (out .exit)) r ⌝ }
+    ensures { λ r. ⌜ Written (now (out .entry)) at
+        (setsTitle count ++ recordLines (now (list .entry)) count) (now (out .exit)) r ⌝ }
 {
     let mut end = title_line(out, at, b"sets", &[count]);
     let mut start = 1;

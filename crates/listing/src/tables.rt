@@ -1,5 +1,5 @@
 // The lines of a table in a buffer: its title, and a line for each row.
-ghost use Prim.Native.Nat.{_+_, _*_, _≤_, _<_};
+ghost use Prim.Native.Nat.{_+_, _*_, _≤_};
 ghost use mathlib.Core.List.{_++_};
 ghost use lib.ListN.{length};
 ghost use Rattle.definitions.specs.Image.{columnCount, imageIds};
@@ -32,9 +32,12 @@ fn table_lines(out: &mut [u8], at: usize, image: &[u32], rows: usize) -> usize
 // The columns, the title of T, and its rows.
 pub fn union_lines(out: &mut [u8], at: usize, image: &[u32], rows: usize, filled: usize) -> usize
     requires { ⌜ 1 + columnCount (now image) + rows * columnCount (now image) ≤ length (now image) ⌝ }
-    requires { ⌜ at + length (columnsLine (imageIds (now image)) ++ (unionTitle rows filled ++ tableLines (now image) rows)) ≤ length (now out) ⌝ }
+    requires { ⌜ at
+        + length (columnsLine (imageIds (now image)) ++ (unionTitle rows filled ++ tableLines (now image) rows))
+        ≤ length (now out) ⌝ }
     ensures { λ r. ⌜ Written (now (out .entry)) at
-        (columnsLine (imageIds (now (image .entry))) ++ (unionTitle rows filled ++ tableLines (now (image .entry)) rows)) (now (out .exit)) r ⌝ }
+        (columnsLine (imageIds (now (image .entry))) ++ (unionTitle rows filled ++ tableLines (now (image .entry)) rows))
+        (now (out .exit)) r ⌝ }
 {
     let stop = 1 + words::columns(image[0]) as usize;
     let mut end = columns_line(out, at, &image[1..stop]);

@@ -97,7 +97,8 @@ put-number-put-byte-requires-2 : (t : ℕ) → put-number-lts.Need-put-byte-requ
 ) (put-number-at t) put-number.Post
 put-number-put-byte-requires-2 t c κs =
     let called = c .before .before .before in
-    omega (arith, last-length _ (called .before .before .if1 .left), called .put-number .ensures .ends, called .put-number .kept .0)
+    let many = called .before .before .if1 .left in
+    omega (arith, last-length _ many, called .put-number .ensures .ends, called .put-number .kept .0)
 
 put-number-same-length-2 : (t : ℕ) → put-number-lts.Need-same-length-2 (
   put-byte-reads.Asked,
@@ -114,10 +115,12 @@ put-number-returns-2 : (t : ℕ) → put-number-lts.Need-returns-2 (
   put-number.Post,
 ) (put-number-at t) put-number.Post
 put-number-returns-2 t c =
-    let called = c .before .before .before .before .before .before in
-    let long = last-length _ (called .before .before .if1 .left) in
-    as-written (sym (decimal-last _ (called .before .before .if1 .left)))
-    (then-written (omega (arith, long, called .put-number .ensures .ends, c .before .before .put-byte2 .ensures .ends)) (called .put-number .ensures) (c .before .before .put-byte2 .ensures))
+    let last = c .before .before in
+    let called = last .before .before .before .before in
+    let many = called .before .before .if1 .left in
+    as-written (sym (decimal-last _ many))
+    (then-written (omega (arith, last-length _ many, called .put-number .ensures .ends, last .put-byte2 .ensures .ends))
+    (called .put-number .ensures) (last .put-byte2 .ensures))
 
 pub +put-number-spec : {M : Type 1} → statement M
 +put-number-spec = close μ-put-number λ t. put-number-lts.spec (

@@ -15,7 +15,9 @@ same-length : tie.Need-same-length
 same-length c = search needs
 
 returns : tie.Need-returns
-returns c = both-written (omega arith) (c .before .before .before .before .before .before .put-byte .ensures) (c .before .before .put-number .ensures)
+returns c =
+    let written = c .before .before in
+    both-written (omega arith) (written .before .before .before .before .put-byte .ensures) (written .put-number .ensures)
 
 pub next-number-spec : {M : Type 1} → statement M
 next-number-spec = tie.close (tie.spec put-byte-requires put-number-requires same-length returns)

@@ -15,7 +15,9 @@ same-length : tie.Need-same-length
 same-length c = search needs
 
 returns : tie.Need-returns
-returns c = both-written (omega arith) (c .before .before .before .before .before .before .put-byte .ensures) (c .before .before .put-text .ensures)
+returns c =
+    let written = c .before .before in
+    both-written (omega arith) (written .before .before .before .before .put-byte .ensures) (written .put-text .ensures)
 
 pub next-word-spec : {M : Type 1} → statement M
 next-word-spec = tie.close (tie.spec put-byte-requires put-text-requires same-length returns)

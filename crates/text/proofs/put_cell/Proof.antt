@@ -26,7 +26,9 @@ cast-put-number : tie.Need-cast-put-number
 cast-put-number c = search needs
 
 put-number-requires : tie.Need-put-number-requires
-put-number-requires c κs = omega (arith, ap length (number-text _ (c .before .before .if1 .left)), ap (λ (n : ℕ). length (decimal n)) (c .low-bits .ensures))
+put-number-requires c κs =
+    let text = number-text _ (c .before .before .if1 .left) in
+    omega (arith, ap length text, ap (λ (n : ℕ). length (decimal n)) (c .low-bits .ensures))
 
 same-length-2 : tie.Need-same-length-2
 same-length-2 c = search needs

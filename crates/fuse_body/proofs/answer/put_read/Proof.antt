@@ -1,11 +1,11 @@
 -- `put_read` meets its contract: a ragged file, board first, or the text of the images.
-use Rattle.definitions.specs.Program.{unionsText}
-use Rattle.fuse_body.proofs.Texts.{ragged-board, ragged-plant, whole-words, read-fits}
-use Rattle.text.proofs.Writing.{as-written}
-use lib.ListN.{length}
-use lib.Seq.{length-take-le}
 use mathlib.Core.Path.{sym, _∙_, ap₂}
 use native.Mathlib.Omega.{arith}
+use lib.ListN.{length}
+use lib.Seq.{length-take-le}
+use Rattle.definitions.specs.Program.{unionsText}
+use Rattle.text.proofs.Writing.{as-written}
+use Rattle.fuse_body.proofs.Texts.{ragged-board, ragged-plant, whole-words, read-fits}
 use borrow.Author.Needs.{needs}
 use Rattle.fuse_body.proofs.answer.put_read.Statement.{statement}
 use Rattle.fuse_body.proofs.answer.put_read.Tie as tie
@@ -15,40 +15,57 @@ slice-aggregate-ragged-line c = search needs
 
 ragged-line-requires : tie.Need-ragged-line-requires
 ragged-line-requires c κs =
-    let s = c .before .before .before .before .before .before in
+    let at-if1 = c .before .before in
+    let s = at-if1 .before .before .before .before in
     let board = s .args .board .now in
     let plant = s .args .plant .now in
-    omega (arith, read-fits board plant _ (length (s .args .out .now)) (ragged-board board plant (c .before .before .if1 .taken)) (s .pre .2))
+    omega (
+      arith,
+      read-fits board plant _ (length (s .args .out .now))
+          (ragged-board board plant (at-if1 .if1 .taken)) (s .pre .2),
+    )
 
 same-length : tie.Need-same-length
 same-length c = search needs
 
 returns : tie.Need-returns
 returns c =
-    let s = c .before .before .before .before .before .before .before .before .before in
+    let at-ragged-line = c .before .before in
+    let at-if1 = at-ragged-line .before .before .before in
+    let s = at-if1 .before .before .before .before in
     let board = s .args .board .now in
     let plant = s .args .plant .now in
-    as-written (ragged-board board plant (c .before .before .before .before .before .if1 .taken)) (c .before .before .ragged-line .ensures)
+    as-written (ragged-board board plant (at-if1 .if1 .taken)) (at-ragged-line .ragged-line .ensures)
 
 slice-aggregate-ragged-line-2 : tie.Need-slice-aggregate-ragged-line-2
 slice-aggregate-ragged-line-2 c = search needs
 
 ragged-line-requires-2 : tie.Need-ragged-line-requires-2
 ragged-line-requires-2 c κs =
-    let s = c .before .before .before .before .before .before .before in
+    let at-if2 = c .before .before in
+    let at-if1 = at-if2 .before in
+    let s = at-if1 .before .before .before .before in
     let board = s .args .board .now in
     let plant = s .args .plant .now in
-    omega (arith, read-fits board plant _ (length (s .args .out .now)) (ragged-plant board plant (c .before .before .before .if1 .left) (c .before .before .if2 .taken)) (s .pre .2))
+    omega (
+      arith,
+      read-fits board plant _ (length (s .args .out .now))
+          (ragged-plant board plant (at-if1 .if1 .left) (at-if2 .if2 .taken)) (s .pre .2),
+    )
 
 same-length-2 : tie.Need-same-length-2
 same-length-2 c = search needs
 
 returns-2 : tie.Need-returns-2
 returns-2 c =
-    let s = c .before .before .before .before .before .before .before .before .before .before in
+    let at-ragged-line2 = c .before .before in
+    let at-if2 = at-ragged-line2 .before .before .before in
+    let at-if1 = at-if2 .before in
+    let s = at-if1 .before .before .before .before in
     let board = s .args .board .now in
     let plant = s .args .plant .now in
-    as-written (ragged-plant board plant (c .before .before .before .before .before .before .if1 .left) (c .before .before .before .before .before .if2 .taken)) (c .before .before .ragged-line2 .ensures)
+    as-written (ragged-plant board plant (at-if1 .if1 .left) (at-if2 .if2 .taken))
+    (at-ragged-line2 .ragged-line2 .ensures)
 
 slice-aggregate-decode : tie.Need-slice-aggregate-decode
 slice-aggregate-decode c = search needs
@@ -82,11 +99,17 @@ same-length-3 c = search needs
 
 returns-3 : tie.Need-returns-3
 returns-3 c =
-    let s = c .before .before .before .before .before .before .before .before .before .before .before .before .before .before .before .before .before in
+    let at-put-images = c .before .before in
+    let at-decode2 = at-put-images .before .before .before .before .before in
+    let at-decode = at-decode2 .before .before .before in
+    let at-if2 = at-decode .before .before in
+    let at-if1 = at-if2 .before in
+    let s = at-if1 .before .before .before .before in
     let board = s .args .board .now in
     let plant = s .args .plant .now in
-    let words = ap₂ unionsText (c .before .before .before .before .before .before .before .before .before .before .decode .ensures .1) (c .before .before .before .before .before .before .before .decode2 .ensures .1) in
-    as-written (words ∙ whole-words board plant (c .before .before .before .before .before .before .before .before .before .before .before .before .before .if1 .left) (c .before .before .before .before .before .before .before .before .before .before .before .before .if2 .left)) (c .before .before .put-images .ensures)
+    let words = ap₂ unionsText (at-decode .decode .ensures .1) (at-decode2 .decode2 .ensures .1) in
+    as-written (words ∙ whole-words board plant (at-if1 .if1 .left) (at-if2 .if2 .left))
+    (at-put-images .put-images .ensures)
 
 pub put-read-spec : {M : Type 1} → statement M
 put-read-spec =

@@ -1,8 +1,8 @@
 -- `write_text` is safe: the text is within the buffer.
-use Rattle.fuse_body.proofs.Texts.{done-within}
-use lib.Seq.{length-take-le}
 use mathlib.Core.Path.{sym}
 use native.Mathlib.Omega.{arith}
+use lib.Seq.{length-take-le}
+use Rattle.fuse_body.proofs.Texts.{done-within}
 use borrow.Author.Needs.{needs}
 use Rattle.fuse_body.proofs.output.write_text.Statement.{statement}
 use Rattle.fuse_body.proofs.output.write_text.Tie as tie
@@ -17,10 +17,16 @@ enum-known-answer : tie.Need-enum-known-answer
 enum-known-answer c = search needs
 
 slice-reshare-prefix-write-all : tie.Need-slice-reshare-prefix-write-all
-slice-reshare-prefix-write-all c = done-within _ _ _ _ _ _ (c .before .answer .given .1) (c .before .before .before .before .before .fuse-text .ensures) (omega arith)
+slice-reshare-prefix-write-all c =
+    done-within _ _ _ _ _ _ (c .before .answer .given .1)
+    (c .before .before .before .before .before .fuse-text .ensures) (omega arith)
 
 slice-aggregate-write-all : tie.Need-slice-aggregate-write-all
-slice-aggregate-write-all c = sym (length-take-le _ _ (done-within _ _ _ _ _ _ (c .before .before .answer .given .1) (c .before .before .before .before .before .before .fuse-text .ensures) (omega arith)))
+slice-aggregate-write-all c =
+    let at-answer = c .before .before in
+    let at-fuse-text = at-answer .before .before .before .before in
+    sym (length-take-le _ _ (done-within _ _ _ _ _ _ (at-answer .answer .given .1) (at-fuse-text .fuse-text .ensures)
+    (omega arith)))
 
 write-all-requires : tie.Need-write-all-requires
 write-all-requires c κs = search needs

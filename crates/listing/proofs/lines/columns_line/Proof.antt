@@ -1,15 +1,15 @@
 -- `columns_line` meets its contract: what is written so far and the ids that are left are the line.
 use Prim.Native.Nat.{ℕ, _+_, _-_, _≤_}
-use Rattle.definitions.specs.Listing.{line, columnsLine}
-use Rattle.definitions.specs.Text.{ascii, decimal}
-use Rattle.definitions.specs.Word.{idOf}
-use Rattle.definitions.proofs.Lines.{later}
-use Rattle.listing.proofs.Fields.{first-fits, line-starts, fields-fit, fields-turn, fields-end-fits, fields-end}
-use Rattle.text.proofs.Writing.{as-written, Writing, same-room, starts, rest-as, rest-fits, ends-with}
-use lib.ListN.{length, drop}
-use mathlib.Core.List.{List, _∷_, map, map-map}
 use mathlib.Core.Path.{_≡_, sym, ap, subst}
+use mathlib.Core.List.{List, _∷_, map, map-map}
 use native.Mathlib.Omega.{arith}
+use lib.ListN.{length, drop}
+use Rattle.definitions.specs.Word.{idOf}
+use Rattle.definitions.specs.Text.{ascii, decimal}
+use Rattle.definitions.specs.Listing.{line, columnsLine}
+use Rattle.definitions.proofs.Lines.{later}
+use Rattle.text.proofs.Writing.{as-written, Writing, same-room, starts, rest-as, rest-fits, ends-with}
+use Rattle.listing.proofs.Fields.{first-fits, line-starts, fields-fit, fields-turn, fields-end-fits, fields-end}
 use borrow.Author.Needs.{needs}
 use Rattle.listing.proofs.lines.columns_line.Statement.{statement}
 use Rattle.listing.proofs.lines.columns_line.Tie as tie
@@ -18,7 +18,9 @@ abbrev idText : ℕ → List ℕ
 idText w = decimal (idOf w)
 
 abbrev Inv-loop : tie.InvT-loop
-Inv-loop out₀ at columns end₀ i₀ out end i = (i ≤ length columns) × Writing out₀ end₀ (later (map idText columns)) (later (map idText (drop i columns))) out end
+Inv-loop out₀ at columns end₀ i₀ out end i =
+    (i ≤ length columns) × Writing out₀ end₀ (later (map idText columns))
+    (later (map idText (drop i columns))) out end
 
 abbrev μ-loop : tie.MeasureT-loop
 μ-loop out₀ at columns end₀ i₀ out end i = length columns - i
@@ -29,13 +31,20 @@ slice-aggregate-put-text c = search needs
 put-text-requires : tie.Need-put-text-requires Inv-loop μ-loop
 put-text-requires c κs =
     let s = c .before .before .before .before in
-    first-fits (s .args .out .now) (s .args .at) (ascii "columns") (map decimal (map idOf (s .args .columns .now))) (s .pre)
+    first-fits (s .args .out .now) (s .args .at) (ascii "columns") (map decimal (map idOf (s .args .columns .now)))
+    (s .pre)
 
 loop-holds : tie.Need-loop-holds Inv-loop μ-loop
 loop-holds c =
-    let s = c .before .before .before .before .before .before .before in
-    let columns = s .args .columns .now in
-    (search needs, starts _ _ _ (rest-fits (rest-as (ap later (map-map decimal idOf columns)) (line-starts (s .args .out .now) (s .args .at) (ascii "columns") (map decimal (map idOf columns)) (s .pre) (c .before .before .put-text .ensures)))))
+    let at-put-text = c .before .before in
+    let s = at-put-text .before .before .before .before .before in
+    let columns = s .args .columns .now in (
+      search needs,
+      starts _ _ _ (rest-fits
+          (rest-as (ap later (map-map decimal idOf columns))
+          (line-starts (s .args .out .now) (s .args .at) (ascii "columns") (map decimal (map idOf columns)) (s .pre)
+          (at-put-text .put-text .ensures)))),
+    )
 
 mul-id : tie.Need-mul-id Inv-loop μ-loop
 mul-id c = search needs
@@ -63,10 +72,13 @@ loop-less c = search needs
 
 loop-again : tie.Need-loop-again Inv-loop μ-loop
 loop-again c =
-    let turned = c .before .before .before .before .before .before .before in
-    let same = ap (λ (n : ℕ). 32 ∷ decimal n) (c .before .before .before .id .ensures) in (
+    let at-next-number = c .before .before in
+    let at-id = at-next-number .before in
+    let turned = at-id .before .before .before .before in
+    let same = ap (λ (n : ℕ). 32 ∷ decimal n) (at-id .id .ensures) in (
       omega arith,
-      fields-turn idText _ (turned .loop .i) (turned .loop .inv .1) (omega arith) (as-written same (c .before .before .next-number .ensures)),
+      fields-turn idText _ (turned .loop .i) (turned .loop .inv .1) (omega arith)
+          (as-written same (at-next-number .next-number .ensures)),
     )
 
 put-byte-requires : tie.Need-put-byte-requires Inv-loop μ-loop
@@ -81,12 +93,16 @@ same-length c =
 
 returns : tie.Need-returns Inv-loop μ-loop
 returns c =
-    let turned = c .before .before .before .before .before in
-    let s = c .before .before .before .before .before .before .before .before .before .before .before .before .before in
+    let at-put-byte = c .before .before in
+    let turned = at-put-byte .before .before .before in
+    let at-put-text = turned .before .before .before in
+    let s = at-put-text .before .before .before .before .before in
     let columns = s .args .columns .now in
     ends-with
-    (rest-as (ap later (map-map decimal idOf columns)) (line-starts (s .args .out .now) (s .args .at) (ascii "columns") (map decimal (map idOf columns)) (s .pre) (c .before .before .before .before .before .before .before .before .put-text .ensures)))
-    (fields-end idText _ (turned .loop .i) (turned .loop .inv .1) (omega arith) (c .before .before .put-byte .ensures))
+    (rest-as (ap later (map-map decimal idOf columns))
+    (line-starts (s .args .out .now) (s .args .at) (ascii "columns") (map decimal (map idOf columns)) (s .pre)
+    (at-put-text .put-text .ensures)))
+    (fields-end idText _ (turned .loop .i) (turned .loop .inv .1) (omega arith) (at-put-byte .put-byte .ensures))
 
 pub columns-line-spec : {M : Type 1} → statement M
 columns-line-spec =

@@ -1,19 +1,21 @@
 -- `title_line` meets its contract: what is written so far and the numbers that are left are the line.
 use Prim.Native.Nat.{_-_, _≤_}
-use Rattle.definitions.specs.Listing.{titleLine}
-use Rattle.definitions.specs.Text.{decimal}
-use Rattle.definitions.proofs.Lines.{later}
-use Rattle.listing.proofs.Fields.{first-fits, line-starts, fields-fit, fields-turn, fields-end-fits, fields-end}
-use Rattle.text.proofs.Writing.{Writing, same-room, starts, rest-as, rest-fits, ends-with}
-use lib.ListN.{length, drop}
 use mathlib.Core.List.{map}
 use native.Mathlib.Omega.{arith}
+use lib.ListN.{length, drop}
+use Rattle.definitions.specs.Text.{decimal}
+use Rattle.definitions.specs.Listing.{titleLine}
+use Rattle.definitions.proofs.Lines.{later}
+use Rattle.text.proofs.Writing.{Writing, same-room, starts, rest-as, rest-fits, ends-with}
+use Rattle.listing.proofs.Fields.{first-fits, line-starts, fields-fit, fields-turn, fields-end-fits, fields-end}
 use borrow.Author.Needs.{needs}
 use Rattle.listing.proofs.lines.title_line.Statement.{statement}
 use Rattle.listing.proofs.lines.title_line.Tie as tie
 
 abbrev Inv-loop : tie.InvT-loop
-Inv-loop out₀ at title numbers end₀ i₀ out end i = (i ≤ length numbers) × Writing out₀ end₀ (later (map decimal numbers)) (later (map decimal (drop i numbers))) out end
+Inv-loop out₀ at title numbers end₀ i₀ out end i =
+    (i ≤ length numbers) × Writing out₀ end₀ (later (map decimal numbers))
+    (later (map decimal (drop i numbers))) out end
 
 abbrev μ-loop : tie.MeasureT-loop
 μ-loop out₀ at title numbers end₀ i₀ out end i = length numbers - i
@@ -25,8 +27,10 @@ put-text-requires c κs =
 
 loop-holds : tie.Need-loop-holds Inv-loop μ-loop
 loop-holds c =
-    let s = c .before .before .before .before .before .before .before in
-    let begun = line-starts (s .args .out .now) (s .args .at) (s .args .title .now) (map decimal (s .args .numbers .now)) (s .pre) (c .before .before .put-text .ensures) in
+    let at-put-text = c .before .before in
+    let s = at-put-text .before .before .before .before .before in
+    let begun = line-starts (s .args .out .now) (s .args .at) (s .args .title .now)
+    (map decimal (s .args .numbers .now)) (s .pre) (at-put-text .put-text .ensures) in
     (search needs, starts _ _ _ (rest-fits begun))
 
 mul-next-number : tie.Need-mul-next-number Inv-loop μ-loop
@@ -48,8 +52,12 @@ loop-less c = search needs
 
 loop-again : tie.Need-loop-again Inv-loop μ-loop
 loop-again c =
-    let turned = c .before .before .before .before .before .before in
-    (omega arith, fields-turn decimal _ (turned .loop .i) (turned .loop .inv .1) (omega arith) (c .before .before .next-number .ensures))
+    let at-next-number = c .before .before in
+    let turned = at-next-number .before .before .before .before in (
+      omega arith,
+      fields-turn decimal _ (turned .loop .i) (turned .loop .inv .1) (omega arith)
+          (at-next-number .next-number .ensures),
+    )
 
 put-byte-requires : tie.Need-put-byte-requires Inv-loop μ-loop
 put-byte-requires c κs =
@@ -63,11 +71,14 @@ same-length c =
 
 returns : tie.Need-returns Inv-loop μ-loop
 returns c =
-    let turned = c .before .before .before .before .before in
-    let s = c .before .before .before .before .before .before .before .before .before .before .before .before .before in
+    let at-put-byte = c .before .before in
+    let turned = at-put-byte .before .before .before in
+    let at-put-text = turned .before .before .before in
+    let s = at-put-text .before .before .before .before .before in
     ends-with
-    (line-starts (s .args .out .now) (s .args .at) (s .args .title .now) (map decimal (s .args .numbers .now)) (s .pre) (c .before .before .before .before .before .before .before .before .put-text .ensures))
-    (fields-end decimal _ (turned .loop .i) (turned .loop .inv .1) (omega arith) (c .before .before .put-byte .ensures))
+    (line-starts (s .args .out .now) (s .args .at) (s .args .title .now) (map decimal (s .args .numbers .now))
+    (s .pre) (at-put-text .put-text .ensures))
+    (fields-end decimal _ (turned .loop .i) (turned .loop .inv .1) (omega arith) (at-put-byte .put-byte .ensures))
 
 pub title-line-spec : {M : Type 1} → statement M
 title-line-spec =

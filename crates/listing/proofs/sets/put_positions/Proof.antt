@@ -1,19 +1,19 @@
 -- `put_positions` meets its contract: what is written so far and the positions that are left are all positions.
 use Prim.Native.Nat.{ℕ, _*_, _-_, _/_, _%_, _^_, _≤_}
-use Rattle.definitions.specs.Limits.{markWords}
-use Rattle.definitions.specs.Reading.{markAt, setIn, positionsOf}
-use Rattle.listing.proofs.SetLines.{positionsLeft, mark-fits, mark-turn, marks-end}
-use Rattle.listing.specs.Lines.{listed}
-use Rattle.text.proofs.Writing.{Writing, starts, same-room}
+use native.Mathlib.Omega.{arith}
 use lib.Bits.{and-mask}
 use lib.ListN.{getD}
-use native.Mathlib.Omega.{arith}
-use borrow.Author.Needs.{needs}
+use Rattle.definitions.specs.Limits.{markWords}
+use Rattle.definitions.specs.Reading.{markAt, setIn, positionsOf}
+use Rattle.text.proofs.Writing.{Writing, starts, same-room}
+use Rattle.listing.specs.Lines.{listed}
+use Rattle.listing.proofs.SetLines.{positionsLeft, mark-fits, mark-turn, marks-end}
 use Rattle.listing.proofs.sets.put_positions.Statement.{statement}
 use Rattle.listing.proofs.sets.put_positions.Tie as tie
 
 abbrev Inv-loop : tie.InvT-loop
-Inv-loop out₀ at set end₀ p₀ out end p = (p ≤ 90) × Writing out₀ at (listed (positionsOf 0 (setIn markWords set))) (positionsLeft set p) out end
+Inv-loop out₀ at set end₀ p₀ out end p =
+    (p ≤ 90) × Writing out₀ at (listed (positionsOf 0 (setIn markWords set))) (positionsLeft set p) out end
 
 abbrev μ-loop : tie.MeasureT-loop
 μ-loop out₀ at set end₀ p₀ out end p = 90 - p
@@ -36,8 +36,10 @@ shr-put-mark c = omega arith
 put-mark-requires : tie.Need-put-mark-requires Inv-loop μ-loop
 put-mark-requires c κs =
     let turned = c .before .before .before in
+    let s = turned .before .before .before in
     let p = turned .loop .p in
-    mark-fits (c .before .before .before .before .before .before .args .set .now) p _ (omega arith) (and-mask (getD (c .before .before .before .before .before .before .args .set .now) (p / 30) 0 / 2 ^ (p % 30)) 1) (turned .loop .inv .1)
+    mark-fits (s .args .set .now) p _ (omega arith) (and-mask (getD (s .args .set .now) (p / 30) 0 / 2 ^ (p % 30)) 1)
+    (turned .loop .inv .1)
 
 add-p : tie.Need-add-p Inv-loop μ-loop
 add-p c = omega arith
@@ -47,11 +49,14 @@ loop-less c = omega arith
 
 loop-again : tie.Need-loop-again Inv-loop μ-loop
 loop-again c =
-    let turned = c .before .before .before .before .before .before in
+    let at-put-mark = c .before .before in
+    let turned = at-put-mark .before .before .before .before in
+    let s = turned .before .before .before in
     let p = turned .loop .p in (
       omega arith,
-      mark-turn (c .before .before .before .before .before .before .before .before .before .args .set .now) p _ (omega arith) (and-mask (getD (c .before .before .before .before .before .before .before .before .before .args .set .now) (p / 30) 0 / 2 ^ (p % 30)) 1) (turned .loop .inv .1)
-          (c .before .before .put-mark .ensures),
+      mark-turn (s .args .set .now) p _ (omega arith)
+          (and-mask (getD (s .args .set .now) (p / 30) 0 / 2 ^ (p % 30)) 1) (turned .loop .inv .1)
+          (at-put-mark .put-mark .ensures),
     )
 
 same-length : tie.Need-same-length Inv-loop μ-loop

@@ -1,15 +1,15 @@
 -- `set_line` meets its contract: the positions, and then the last two fields.
 use Prim.Native.Nat.{ℕ, _≤_}
+use mathlib.Core.Path.{ap}
+use mathlib.Core.List.{List, [], _∷_}
+use native.Mathlib.Omega.{arith}
+use lib.ListN.{length}
 use Rattle.definitions.specs.Limits.{markWords}
 use Rattle.definitions.specs.Reading.{placeIn}
 use Rattle.definitions.specs.Text.{decimal}
+use Rattle.text.proofs.Writing.{as-written, fits-next, turns, ends-with}
 use Rattle.listing.proofs.Fields.{field-fits, field-turn, end-fits}
 use Rattle.listing.proofs.SetLines.{behind, positions-fit, set-starts}
-use Rattle.text.proofs.Writing.{as-written, fits-next, turns, ends-with}
-use lib.ListN.{length}
-use mathlib.Core.List.{List, [], _∷_}
-use mathlib.Core.Path.{ap}
-use native.Mathlib.Omega.{arith}
 use borrow.Author.Needs.{needs}
 use Rattle.listing.proofs.sets.set_line.Statement.{statement}
 use Rattle.listing.proofs.sets.set_line.Tie as tie
@@ -21,10 +21,11 @@ put-positions-requires c κs =
 
 put-byte-requires : tie.Need-put-byte-requires
 put-byte-requires c κs =
-    let s = c .before .before .before .before .before .before .before in
+    let at-put-positions = c .before .before .before in
+    let s = at-put-positions .before .before .before .before in
     let set = s .args .set .now in
     let fits = s .pre .1 in
-    let begun = set-starts (s .args .out .now) (s .args .at) set fits (c .before .before .before .put-positions .ensures) in
+    let begun = set-starts (s .args .out .now) (s .args .at) set fits (at-put-positions .put-positions .ensures) in
     let left = behind (s .args .out .now) (s .args .at) set fits in
     fits-next (62 ∷ []) left begun
 
@@ -39,41 +40,53 @@ cast-next-number c = search needs
 
 next-number-requires : tie.Need-next-number-requires
 next-number-requires c κs =
-    let s = c .before .before .before .before .before .before .before .before .before .before .before .before .before in
+    let at-put-byte = c .before .before .before .before .before in
+    let at-put-positions = at-put-byte .before .before .before .before in
+    let s = at-put-positions .before .before .before .before in
     let set = s .args .set .now in
     let fits = s .pre .1 in
-    let begun = set-starts (s .args .out .now) (s .args .at) set fits (c .before .before .before .before .before .before .before .before .before .put-positions .ensures) in
+    let begun = set-starts (s .args .out .now) (s .args .at) set fits (at-put-positions .put-positions .ensures) in
     let left = behind (s .args .out .now) (s .args .at) set fits in
-    let marked = turns left begun (c .before .before .before .before .before .put-byte .ensures) in
+    let marked = turns left begun (at-put-byte .put-byte .ensures) in
     let place : List ℕ = decimal (placeIn markWords set) in
     omega (arith, field-fits place [] marked, ap (λ (n : ℕ). length (decimal n)) (c .low-bits .ensures))
 
 put-byte-requires-2 : tie.Need-put-byte-requires-2
 put-byte-requires-2 c κs =
-    let s = c .before .before .before .before .before .before .before .before .before .before .before .before .before .before .before .before .before in
+    let at-next-number = c .before .before .before in
+    let at-low-bits = at-next-number .before in
+    let at-put-byte = at-low-bits .before .before .before .before .before in
+    let at-put-positions = at-put-byte .before .before .before .before in
+    let s = at-put-positions .before .before .before .before in
     let set = s .args .set .now in
     let fits = s .pre .1 in
-    let begun = set-starts (s .args .out .now) (s .args .at) set fits (c .before .before .before .before .before .before .before .before .before .before .before .before .before .put-positions .ensures) in
+    let begun = set-starts (s .args .out .now) (s .args .at) set fits (at-put-positions .put-positions .ensures) in
     let left = behind (s .args .out .now) (s .args .at) set fits in
-    let marked = turns left begun (c .before .before .before .before .before .before .before .before .before .put-byte .ensures) in
+    let marked = turns left begun (at-put-byte .put-byte .ensures) in
     let place : List ℕ = decimal (placeIn markWords set) in
-    let same = ap (λ (n : ℕ). 32 ∷ decimal n) (c .before .before .before .before .low-bits .ensures) in
-    end-fits (field-turn place [] marked (as-written same (c .before .before .before .next-number .ensures)))
+    let same = ap (λ (n : ℕ). 32 ∷ decimal n) (at-low-bits .low-bits .ensures) in
+    end-fits (field-turn place [] marked (as-written same (at-next-number .next-number .ensures)))
 
 same-length : tie.Need-same-length
 same-length c = search needs
 
 returns : tie.Need-returns
 returns c =
-    let s = c .before .before .before .before .before .before .before .before .before .before .before .before .before .before .before .before .before .before .before .before in
+    let at-put-byte2 = c .before .before in
+    let at-next-number = at-put-byte2 .before .before .before .before in
+    let at-low-bits = at-next-number .before in
+    let at-put-byte = at-low-bits .before .before .before .before .before in
+    let at-put-positions = at-put-byte .before .before .before .before in
+    let s = at-put-positions .before .before .before .before in
     let set = s .args .set .now in
     let fits = s .pre .1 in
-    let begun = set-starts (s .args .out .now) (s .args .at) set fits (c .before .before .before .before .before .before .before .before .before .before .before .before .before .before .before .before .put-positions .ensures) in
+    let begun = set-starts (s .args .out .now) (s .args .at) set fits (at-put-positions .put-positions .ensures) in
     let left = behind (s .args .out .now) (s .args .at) set fits in
-    let marked = turns left begun (c .before .before .before .before .before .before .before .before .before .before .before .before .put-byte .ensures) in
+    let marked = turns left begun (at-put-byte .put-byte .ensures) in
     let place : List ℕ = decimal (placeIn markWords set) in
-    let same = ap (λ (n : ℕ). 32 ∷ decimal n) (c .before .before .before .before .before .before .before .low-bits .ensures) in
-    ends-with (field-turn place [] marked (as-written same (c .before .before .before .before .before .before .next-number .ensures))) (c .before .before .put-byte2 .ensures)
+    let same = ap (λ (n : ℕ). 32 ∷ decimal n) (at-low-bits .low-bits .ensures) in
+    ends-with (field-turn place [] marked (as-written same (at-next-number .next-number .ensures)))
+    (at-put-byte2 .put-byte2 .ensures)
 
 pub set-line-spec : {M : Type 1} → statement M
 set-line-spec =

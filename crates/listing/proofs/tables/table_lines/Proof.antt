@@ -1,14 +1,14 @@
 -- `table_lines` meets its contract: the lines so far and the rows that are left are the lines of the table.
 use Prim.Native.Nat.{ℕ, _+_, _*_, _-_, _≤_}
+use mathlib.Core.Path.{_≡_, sym, ap, subst}
+use mathlib.Core.List.{List}
+use native.Mathlib.Omega.{arith}
+use lib.ListN.{length}
 use Rattle.definitions.specs.Image.{columnCount}
 use Rattle.definitions.specs.Listing.{rowLine}
-use Rattle.listing.proofs.Rows.{lines, row-within, row-next-start, line-fits, line-turn, lines-end}
-use Rattle.listing.specs.Lines.{tableLines}
 use Rattle.text.proofs.Writing.{as-written, Writing, starts, same-room}
-use lib.ListN.{length}
-use mathlib.Core.List.{List}
-use mathlib.Core.Path.{_≡_, sym, ap, subst}
-use native.Mathlib.Omega.{arith}
+use Rattle.listing.specs.Lines.{tableLines}
+use Rattle.listing.proofs.Rows.{lines, row-within, row-next-start, line-fits, line-turn, lines-end}
 use borrow.Author.Needs.{needs}
 use Rattle.listing.proofs.tables.table_lines.Statement.{statement}
 use Rattle.listing.proofs.tables.table_lines.Tie as tie
@@ -24,7 +24,8 @@ table-within image rows n e h = subst (λ (k : ℕ). 1 + k + rows * k ≤ length
 abbrev Inv-loop : tie.InvT-loop
 Inv-loop out₀ at image rows columns end₀ start₀ i₀ out end start i =
     (columns ≡ columnCount image) × (i ≤ rows) × (start ≡ 1 + columns + i * columns)
-    × Writing out₀ at (lines rowLine (1 + columns) columns rows image 0) (lines rowLine (1 + columns) columns rows image i) out end
+    × Writing out₀ at (lines rowLine (1 + columns) columns rows image 0)
+    (lines rowLine (1 + columns) columns rows image i) out end
 
 abbrev μ-loop : tie.MeasureT-loop
 μ-loop out₀ at image rows columns end₀ start₀ i₀ out end start i = rows - i
@@ -47,27 +48,39 @@ loop-holds c =
     let image = s .args .image .now in
     let rows = s .args .rows in
     let n = c .columns .result in
-    let e = c .columns .ensures in
-    (e, omega arith, omega arith, starts _ _ _ (subst (λ (text : List ℕ). s .args .at + length text ≤ length (s .args .out .now)) (sym (table-as image rows n e)) (s .pre .1)))
+    let e = c .columns .ensures in (
+      e,
+      omega arith,
+      omega arith,
+      starts _ _ _
+          (subst (λ (text : List ℕ). s .args .at + length text ≤ length (s .args .out .now))
+          (sym (table-as image rows n e)) (s .pre .1)),
+    )
 
 add-stop : tie.Need-add-stop Inv-loop μ-loop
 add-stop c =
-    let s = c .before .before .before .before .before .before in
+    let at-loop = c .before in
+    let at-columns = at-loop .before in
+    let s = at-columns .before .before .before .before in
     let image = s .args .image .now in
     let rows = s .args .rows in
-    let turned = c .before .loop in
-    let n = c .before .before .columns .result in
-    let within = row-within rowLine (1 + n) n rows image (turned .i) (turned .start) (turned .inv .2) (omega arith) (table-within image rows n (turned .inv .0) (s .pre .0)) in
+    let turned = at-loop .loop in
+    let n = at-columns .columns .result in
+    let within = row-within rowLine (1 + n) n rows image (turned .i) (turned .start) (turned .inv .2) (omega arith)
+    (table-within image rows n (turned .inv .0) (s .pre .0)) in
     omega (arith, within)
 
 mul-row-line : tie.Need-mul-row-line Inv-loop μ-loop
 mul-row-line c =
-    let s = c .before .before .before .before .before .before .before in
+    let at-loop = c .before .before in
+    let at-columns = at-loop .before in
+    let s = at-columns .before .before .before .before in
     let image = s .args .image .now in
     let rows = s .args .rows in
-    let turned = c .before .before .loop in
-    let n = c .before .before .before .columns .result in
-    let within = row-within rowLine (1 + n) n rows image (turned .i) (turned .start) (turned .inv .2) (omega arith) (table-within image rows n (turned .inv .0) (s .pre .0)) in
+    let turned = at-loop .loop in
+    let n = at-columns .columns .result in
+    let within = row-within rowLine (1 + n) n rows image (turned .i) (turned .start) (turned .inv .2) (omega arith)
+    (table-within image rows n (turned .inv .0) (s .pre .0)) in
     omega (arith, within)
 
 sub-row-line : tie.Need-sub-row-line Inv-loop μ-loop
@@ -78,21 +91,26 @@ part-row-line-start c = search needs
 
 part-row-line-end : tie.Need-part-row-line-end Inv-loop μ-loop
 part-row-line-end c =
-    let s = c .before .before .before .before .before .before .before in
+    let at-loop = c .before .before in
+    let at-columns = at-loop .before in
+    let s = at-columns .before .before .before .before in
     let image = s .args .image .now in
     let rows = s .args .rows in
-    let turned = c .before .before .loop in
-    let n = c .before .before .before .columns .result in
-    let within = row-within rowLine (1 + n) n rows image (turned .i) (turned .start) (turned .inv .2) (omega arith) (table-within image rows n (turned .inv .0) (s .pre .0)) in
+    let turned = at-loop .loop in
+    let n = at-columns .columns .result in
+    let within = row-within rowLine (1 + n) n rows image (turned .i) (turned .start) (turned .inv .2) (omega arith)
+    (table-within image rows n (turned .inv .0) (s .pre .0)) in
     omega (arith, within)
 
 row-line-requires : tie.Need-row-line-requires Inv-loop μ-loop
 row-line-requires c κs =
-    let s = c .before .before .before .before .before .before .before .before in
+    let at-loop = c .before .before .before in
+    let at-columns = at-loop .before in
+    let s = at-columns .before .before .before .before in
     let image = s .args .image .now in
     let rows = s .args .rows in
-    let turned = c .before .before .before .loop in
-    let n = c .before .before .before .before .columns .result in
+    let turned = at-loop .loop in
+    let n = at-columns .columns .result in
     line-fits rowLine (1 + n) n rows image (turned .i) (turned .start) (turned .inv .2) (turned .inv .3) (omega arith)
 
 add-i : tie.Need-add-i Inv-loop μ-loop
@@ -103,15 +121,19 @@ loop-less c = search needs
 
 loop-again : tie.Need-loop-again Inv-loop μ-loop
 loop-again c =
-    let s = c .before .before .before .before .before .before .before .before .before .before .before in
+    let at-row-line = c .before .before in
+    let at-loop = at-row-line .before .before .before .before in
+    let at-columns = at-loop .before in
+    let s = at-columns .before .before .before .before in
     let image = s .args .image .now in
     let rows = s .args .rows in
-    let turned = c .before .before .before .before .before .before .loop in
-    let n = c .before .before .before .before .before .before .before .columns .result in (
+    let turned = at-loop .loop in
+    let n = at-columns .columns .result in (
       turned .inv .0,
       omega arith,
       row-next-start rowLine (1 + n) n rows image (turned .i) (turned .start) (turned .inv .2),
-      line-turn rowLine (1 + n) n rows image (turned .i) (turned .start) (turned .inv .2) (turned .inv .3) (omega arith) (c .before .before .row-line .ensures),
+      line-turn rowLine (1 + n) n rows image (turned .i) (turned .start) (turned .inv .2) (turned .inv .3)
+          (omega arith) (at-row-line .row-line .ensures),
     )
 
 same-length : tie.Need-same-length Inv-loop μ-loop
@@ -119,12 +141,15 @@ same-length c = same-room (c .before .loop .inv .3)
 
 returns : tie.Need-returns Inv-loop μ-loop
 returns c =
-    let s = c .before .before .before .before .before .before in
+    let at-loop = c .before in
+    let at-columns = at-loop .before in
+    let s = at-columns .before .before .before .before in
     let image = s .args .image .now in
     let rows = s .args .rows in
-    let turned = c .before .loop in
-    let n = c .before .before .columns .result in
-    as-written (table-as image rows n (turned .inv .0)) (lines-end rowLine (1 + n) n rows image (turned .i) (omega arith) (turned .inv .3))
+    let turned = at-loop .loop in
+    let n = at-columns .columns .result in
+    as-written (table-as image rows n (turned .inv .0))
+    (lines-end rowLine (1 + n) n rows image (turned .i) (omega arith) (turned .inv .3))
 
 pub table-lines-spec : {M : Type 1} → statement M
 table-lines-spec =

@@ -1,14 +1,14 @@
 -- `union_lines` meets its contract: the columns, the title, and then the rows.
 use Prim.Native.Nat.{ℕ, _+_, _-_, _≤_}
+use mathlib.Core.Path.{_≡_, sym, ap, subst}
+use mathlib.Core.List.{List, _++_, map}
+use native.Mathlib.Omega.{arith}
+use lib.ListN.{length, take, drop}
+use Rattle.definitions.specs.Word.{idOf}
 use Rattle.definitions.specs.Image.{columnCount, imageIds}
 use Rattle.definitions.specs.Listing.{columnsLine, unionTitle}
-use Rattle.definitions.specs.Word.{idOf}
-use Rattle.listing.specs.Lines.{tableLines}
 use Rattle.text.proofs.Writing.{as-written, fits-next, rest-fits, turns, ends-with, front-fits, front-written}
-use lib.ListN.{length, take, drop}
-use mathlib.Core.List.{List, _++_, map}
-use mathlib.Core.Path.{_≡_, sym, ap, subst}
-use native.Mathlib.Omega.{arith}
+use Rattle.listing.specs.Lines.{tableLines}
 use borrow.Author.Needs.{needs}
 use Rattle.listing.proofs.tables.union_lines.Statement.{statement}
 use Rattle.listing.proofs.tables.union_lines.Tie as tie
@@ -42,13 +42,15 @@ part-columns-line-end c = search needs
 
 columns-line-requires : tie.Need-columns-line-requires
 columns-line-requires c κs =
-    let s = c .before .before .before .before .before .before in
+    let at-columns = c .before .before in
+    let s = at-columns .before .before .before .before in
     let image = s .args .image .now in
     let lines = tableLines image (s .args .rows) in
     let title = unionTitle (s .args .rows) (s .args .filled) in
-    let same = ids-as image (c .before .before .columns .result) (c .before .before .columns .ensures) in
+    let same = ids-as image (at-columns .columns .result) (at-columns .columns .ensures) in
     subst (λ (text : List ℕ). s .args .at + length text ≤ length (s .args .out .now)) (sym same)
-    (front-fits (length (s .args .out .now)) (s .args .at) (columnsLine (imageIds image)) (title ++ lines) (s .pre .1))
+    (front-fits (length (s .args .out .now)) (s .args .at) (columnsLine (imageIds image)) (title ++ lines)
+    (s .pre .1))
 
 slice-aggregate-title-line : tie.Need-slice-aggregate-title-line
 slice-aggregate-title-line c = search needs
@@ -58,36 +60,48 @@ slice-aggregate-title-line-2 c = search needs
 
 title-line-requires : tie.Need-title-line-requires
 title-line-requires c κs =
-    let s = c .before .before .before .before .before .before .before .before .before .before .before .before in
+    let at-columns-line = c .before .before .before .before .before in
+    let at-columns = at-columns-line .before .before .before in
+    let s = at-columns .before .before .before .before in
     let image = s .args .image .now in
     let lines = tableLines image (s .args .rows) in
     let title = unionTitle (s .args .rows) (s .args .filled) in
-    let same = ids-as image (c .before .before .before .before .before .before .before .before .columns .result) (c .before .before .before .before .before .before .before .before .columns .ensures) in
-    let begun = front-written (title ++ lines) (s .pre .1) (as-written same (c .before .before .before .before .before .columns-line .ensures)) in
+    let same = ids-as image (at-columns .columns .result) (at-columns .columns .ensures) in
+    let begun = front-written (title ++ lines) (s .pre .1)
+    (as-written same (at-columns-line .columns-line .ensures)) in
     fits-next title lines begun
 
 table-lines-requires : tie.Need-table-lines-requires
 table-lines-requires c κs =
-    let s = c .before .before .before .before .before .before .before .before .before .before .before .before .before .before .before .before in
+    let at-title-line = c .before .before .before in
+    let at-columns-line = at-title-line .before .before .before .before .before .before in
+    let at-columns = at-columns-line .before .before .before in
+    let s = at-columns .before .before .before .before in
     let image = s .args .image .now in
     let lines = tableLines image (s .args .rows) in
     let title = unionTitle (s .args .rows) (s .args .filled) in
-    let same = ids-as image (c .before .before .before .before .before .before .before .before .before .before .before .before .columns .result) (c .before .before .before .before .before .before .before .before .before .before .before .before .columns .ensures) in
-    let begun = front-written (title ++ lines) (s .pre .1) (as-written same (c .before .before .before .before .before .before .before .before .before .columns-line .ensures)) in
-    (s .pre .0, rest-fits (turns lines begun (c .before .before .before .title-line .ensures)))
+    let same = ids-as image (at-columns .columns .result) (at-columns .columns .ensures) in
+    let begun = front-written (title ++ lines) (s .pre .1)
+    (as-written same (at-columns-line .columns-line .ensures)) in
+    (s .pre .0, rest-fits (turns lines begun (at-title-line .title-line .ensures)))
 
 same-length : tie.Need-same-length
 same-length c = search needs
 
 returns : tie.Need-returns
 returns c =
-    let s = c .before .before .before .before .before .before .before .before .before .before .before .before .before .before .before .before .before .before .before in
+    let at-table-lines = c .before .before in
+    let at-title-line = at-table-lines .before .before .before .before in
+    let at-columns-line = at-title-line .before .before .before .before .before .before in
+    let at-columns = at-columns-line .before .before .before in
+    let s = at-columns .before .before .before .before in
     let image = s .args .image .now in
     let lines = tableLines image (s .args .rows) in
     let title = unionTitle (s .args .rows) (s .args .filled) in
-    let same = ids-as image (c .before .before .before .before .before .before .before .before .before .before .before .before .before .before .before .columns .result) (c .before .before .before .before .before .before .before .before .before .before .before .before .before .before .before .columns .ensures) in
-    let begun = front-written (title ++ lines) (s .pre .1) (as-written same (c .before .before .before .before .before .before .before .before .before .before .before .before .columns-line .ensures)) in
-    ends-with (turns lines begun (c .before .before .before .before .before .before .title-line .ensures)) (c .before .before .table-lines .ensures)
+    let same = ids-as image (at-columns .columns .result) (at-columns .columns .ensures) in
+    let begun = front-written (title ++ lines) (s .pre .1)
+    (as-written same (at-columns-line .columns-line .ensures)) in
+    ends-with (turns lines begun (at-title-line .title-line .ensures)) (at-table-lines .table-lines .ensures)
 
 pub union-lines-spec : {M : Type 1} → statement M
 union-lines-spec =
