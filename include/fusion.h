@@ -15,7 +15,7 @@
  * be null, also where the length is 0, and must be aligned for uint32_t. The
  * two images are only read and may be the same memory; table, sets and answer
  * must not overlap each other or an image. The calls keep no state and
- * allocate nothing.
+ * allocate nothing. The archive needs memcpy and memset and nothing else.
  *
  * Each call returns the refusal number, 0 for done, and writes the answer:
  *

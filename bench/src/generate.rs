@@ -1,4 +1,4 @@
-//! Seeded generator of inputs: pairs of images, buffers and workloads.
+//! Seeded generator of inputs: pairs of images and buffers.
 
 use crate::{MAX_COLUMNS, MAX_SOURCE_ROWS};
 
@@ -110,7 +110,7 @@ pub struct Pair {
     pub second: Vec<u32>,
 }
 
-fn pair(kind: &'static str, (first, second): (Table, Table)) -> Pair {
+pub(crate) fn pair(kind: &'static str, (first, second): (Table, Table)) -> Pair {
     Pair {
         kind,
         first: first.image(),
@@ -119,7 +119,7 @@ fn pair(kind: &'static str, (first, second): (Table, Table)) -> Pair {
 }
 
 /// Distinct column ids, ascending: a dense range, or with the extremes.
-fn distinct_ids(rng: &mut Rng, count: usize) -> Vec<u32> {
+pub(crate) fn distinct_ids(rng: &mut Rng, count: usize) -> Vec<u32> {
     let mut ids = Vec::new();
     if rng.chance(1, 2) {
         let start = rng.below(65_536 - count) as u32;
@@ -143,7 +143,7 @@ fn distinct_ids(rng: &mut Rng, count: usize) -> Vec<u32> {
 }
 
 /// A few distinct numbers to fill cells with, with the extremes at times.
-fn distinct_numbers(rng: &mut Rng, count: usize) -> Vec<u32> {
+pub(crate) fn distinct_numbers(rng: &mut Rng, count: usize) -> Vec<u32> {
     let mut numbers = Vec::new();
     match rng.below(4) {
         0 => numbers.extend(0..count as u32),
@@ -254,7 +254,7 @@ pub fn twin(rng: &mut Rng, union: &[u32]) -> Pair {
 }
 
 /// Random rows with few numbers; a cell is filled in `part` of 8 cases.
-fn random_table(
+pub(crate) fn random_table(
     rng: &mut Rng,
     pool: &[u32],
     columns: usize,
@@ -369,7 +369,7 @@ fn ring(rng: &mut Rng) -> (Table, Table) {
 /// Rows that share a number in the key column and each fill one further
 /// column: `sizes[k]` rows in the k-th further column. The rows have as many
 /// maximal sets as the product of the sizes. A key without sizes is one row.
-fn grid(numbers: &[u32], columns: usize, key: usize, sizes: &[usize]) -> Vec<Vec<u32>> {
+pub(crate) fn grid(numbers: &[u32], columns: usize, key: usize, sizes: &[usize]) -> Vec<Vec<u32>> {
     let mut rows = Vec::new();
     if sizes.is_empty() {
         let mut row = vec![0; columns];
@@ -388,7 +388,7 @@ fn grid(numbers: &[u32], columns: usize, key: usize, sizes: &[usize]) -> Vec<Vec
 }
 
 /// Moves column 0 and the others to random places, and some to no use.
-fn scatter(rng: &mut Rng, rows: &[Vec<u32>], columns: usize) -> (Table, Table) {
+pub(crate) fn scatter(rng: &mut Rng, rows: &[Vec<u32>], columns: usize) -> (Table, Table) {
     let wide = if rng.chance(1, 4) {
         rng.between(columns, MAX_COLUMNS)
     } else {
@@ -476,6 +476,47 @@ fn antichain(rng: &mut Rng, width: usize, ones: usize, count: usize) -> Vec<Vec<
         tries += 1;
     }
     patterns
+}
+
+/// The rows of a grid, `apart` rows that complement nothing, and `beside` rows
+/// that complement all but those: they fill half of the columns that the grid
+/// leaves, the same number in each column, in ways that form an antichain, so
+/// that none subsumes another. There are as many maximal sets as the product
+/// of the sizes, and one for each row apart.
+pub(crate) fn grid_beside(
+    rng: &mut Rng,
+    sizes: &[usize],
+    apart: usize,
+    beside: usize,
+) -> Vec<Vec<u32>> {
+    let mut numbers = distinct_numbers(rng, 64);
+    // Ascending, so that rows apart stand behind those with the grid's key.
+    numbers.sort_unstable();
+    let mut rows = grid(&numbers, MAX_COLUMNS, 0, sizes);
+    for key in 1..=apart {
+        rows.extend(grid(&numbers, MAX_COLUMNS, key, &[]));
+    }
+    let start = 1 + sizes.len();
+    let width = MAX_COLUMNS - start;
+    for pattern in antichain(rng, width, width / 2, beside) {
+        let mut row = vec![0; MAX_COLUMNS];
+        row[0] = cell(numbers[0]);
+        for column in (0..width).filter(|&column| pattern[column]) {
+            row[start + column] = cell(numbers[column]);
+        }
+        rows.push(row);
+    }
+    rows
+}
+
+/// Such rows in any numbers, with the columns in any order.
+fn beside(rng: &mut Rng) -> (Table, Table) {
+    let sizes: Vec<usize> = (0..rng.between(1, 8)).map(|_| rng.between(1, 5)).collect();
+    let apart = rng.below(3);
+    let room = 64 - apart - sizes.iter().sum::<usize>();
+    let count = rng.between(0, room);
+    let rows = grid_beside(rng, &sizes, apart, count);
+    scatter(rng, &rows, MAX_COLUMNS)
 }
 
 /// Hostile lists: for each device a board row (-, 1, pattern) and a plant row
@@ -589,7 +630,7 @@ fn wide(rng: &mut Rng) -> (Table, Table) {
 
 /// A pair that passes questions 1 to 7.
 fn sound(rng: &mut Rng) -> Pair {
-    match rng.below(32) {
+    match rng.below(33) {
         0..=9 => pair("small", small(rng)),
         10..=13 => pair("any size", any_size(rng)),
         14..=20 => pair("parts", parts(rng)),
@@ -605,6 +646,7 @@ fn sound(rng: &mut Rng) -> Pair {
             let rows = rng.between(0, 64);
             pair("all complement", all_complement(rows, rng))
         }
+        30 => pair("groups and rows beside", beside(rng)),
         _ => pair("wide", wide(rng)),
     }
 }
@@ -786,125 +828,4 @@ pub fn fill(rng: &mut Rng, words: &mut [u32]) {
         }
         _ => words.fill_with(|| rng.word()),
     }
-}
-
-/// Inputs of one benchmark line; the calls go through them in turn.
-pub struct Workload {
-    pub name: String,
-    pub pairs: Vec<Pair>,
-}
-
-/// Different inputs in each workload.
-const VARIANTS: u64 = 8;
-
-fn workload(name: String, make: impl Fn(&mut Rng) -> (Table, Table)) -> Workload {
-    let pairs = (0..VARIANTS)
-        .map(|variant| pair("workload", make(&mut Rng::for_case(2026, variant))))
-        .collect();
-    Workload { name, pairs }
-}
-
-/// Two lists of the same devices. Every device has a whole row; each list
-/// holds a part of it. `columns` ids, half of them in both lists if `narrow`.
-fn lists(rng: &mut Rng, rows: usize, columns: usize, narrow: bool) -> (Table, Table) {
-    let ids: Vec<u32> = (10..10 + columns as u32).collect();
-    let whole: Vec<Vec<u32>> = (0..rows as u32)
-        .map(|device| {
-            let mut row = vec![cell(device)];
-            row.extend((1..columns).map(|_| cell(rng.below(6) as u32)));
-            row
-        })
-        .collect();
-    let mut table = |places: &[usize]| {
-        let mut rows: Vec<Vec<u32>> = whole
-            .iter()
-            .map(|row| {
-                places
-                    .iter()
-                    .map(|&place| {
-                        let keep = if place == 0 { 7 } else { 5 };
-                        if rng.chance(keep, 8) {
-                            row[place]
-                        } else {
-                            0
-                        }
-                    })
-                    .collect()
-            })
-            .collect();
-        rng.shuffle(&mut rows);
-        Table {
-            ids: places.iter().map(|&place| ids[place]).collect(),
-            rows,
-        }
-    };
-    let all: Vec<usize> = (0..columns).collect();
-    if narrow {
-        let cut = columns / 4;
-        (table(&all[..columns - cut]), {
-            let mut places = all[cut..].to_vec();
-            places.insert(0, 0);
-            table(&places)
-        })
-    } else {
-        (table(&all), table(&all))
-    }
-}
-
-/// Two full lists with few numbers and half of the cells empty.
-fn full_lists(rng: &mut Rng) -> (Table, Table) {
-    let ids: Vec<u32> = (10..10 + MAX_COLUMNS as u32).collect();
-    let numbers = [0, 1, 2];
-    let first = random_table(rng, &ids, MAX_COLUMNS, MAX_SOURCE_ROWS, &numbers, 3);
-    let second = random_table(rng, &ids, MAX_COLUMNS, MAX_SOURCE_ROWS, &numbers, 3);
-    (first, second)
-}
-
-/// 2^parts sets from 2 * parts rows.
-fn power_of_two_sets(rng: &mut Rng, parts: usize) -> (Table, Table) {
-    let numbers = distinct_numbers(rng, 2);
-    let rows = grid(&numbers, 1 + parts, 0, &vec![2; parts]);
-    scatter(rng, &rows, 1 + parts)
-}
-
-/// The named workloads.
-pub fn workloads() -> Vec<Workload> {
-    vec![
-        workload("typical lists, 2 x 20 rows, 8 columns".into(), |rng| {
-            lists(rng, 20, 8, true)
-        }),
-        workload("full lists, 2 x 32 rows, 16 columns".into(), full_lists),
-        workload("1,024 sets".into(), |rng| document_sets(rng, 0)),
-        workload("1,025 sets (refused)".into(), |rng| document_sets(rng, 1)),
-        workload("far over 1,024 sets (refused)".into(), far_over_limit),
-        workload("64 rows that all complement each other".into(), |rng| {
-            all_complement(64, rng)
-        }),
-        workload("hostile lists, 64 rows".into(), |rng| {
-            hostile(32, MAX_COLUMNS - 2, rng)
-        }),
-    ]
-}
-
-/// Growth with the number of rows.
-pub fn growth_with_rows() -> Vec<Workload> {
-    [4, 8, 12, 16, 20, 24, 28, 32]
-        .into_iter()
-        .map(|rows| {
-            workload(format!("2 x {rows} rows, 8 columns"), move |rng| {
-                lists(rng, rows, 8, true)
-            })
-        })
-        .collect()
-}
-
-/// Growth with the number of sets: 2, 4, ..., 1,024.
-pub fn growth_with_sets() -> Vec<Workload> {
-    (1..=10)
-        .map(|parts| {
-            workload(format!("{} sets", 1u32 << parts), move |rng| {
-                power_of_two_sets(rng, parts)
-            })
-        })
-        .collect()
 }

@@ -2,11 +2,13 @@
 //! library. Everything here is written from document 01, not from the
 //! product's code.
 
+pub mod count;
 #[cfg(feature = "product")]
 pub mod ffi;
 pub mod generate;
 pub mod naive;
 pub mod reference;
+pub mod workloads;
 
 /// Largest number of columns of a source table and of a union.
 pub const MAX_COLUMNS: usize = 16;

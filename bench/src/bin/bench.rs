@@ -10,8 +10,9 @@
 
 #[cfg(feature = "product")]
 use fusion_bench::ffi::Product;
-use fusion_bench::generate::{growth_with_rows, growth_with_sets, workloads, Workload};
+use fusion_bench::generate::Pair;
 use fusion_bench::reference::Reference;
+use fusion_bench::workloads::{growth_with_rows, growth_with_sets, workloads, Workload};
 use fusion_bench::{Call, Unions, ANSWER_WORDS, MAX_SET_WORDS, MAX_TABLE_WORDS};
 use std::hint::black_box;
 
@@ -100,6 +101,20 @@ impl Lane {
         }
     }
 
+    /// Runs one input and gives the answer and the words written.
+    fn run(&mut self, pair: &Pair, call: Call) -> (&[u32], &[u32], &[u32]) {
+        self.unions.run(
+            call,
+            &pair.first,
+            &pair.second,
+            &mut self.table,
+            &mut self.sets,
+            &mut self.answer,
+        );
+        let (words, set_words) = (self.answer[3] as usize, self.answer[7] as usize);
+        (&self.answer, &self.table[..words], &self.sets[..set_words])
+    }
+
     fn batch(&mut self, workload: &Workload, call: Call) {
         let time = self.time(workload, call, self.rounds);
         let calls = f64::from(self.rounds) * workload.pairs.len() as f64;
@@ -109,6 +124,18 @@ impl Lane {
     fn median(&mut self) -> f64 {
         self.times.sort_unstable_by(f64::total_cmp);
         self.times[self.times.len() / 2]
+    }
+}
+
+/// Stops the program where the lanes differ: their times would say nothing.
+fn compare(lanes: &mut [Lane], workload: &Workload, call: Call) {
+    let (first, others) = lanes.split_first_mut().unwrap();
+    for pair in &workload.pairs {
+        let expected = first.run(pair, call);
+        for other in others.iter_mut() {
+            let name = &workload.name;
+            assert!(other.run(pair, call) == expected, "'{name}': they differ");
+        }
     }
 }
 
@@ -150,51 +177,63 @@ fn sets(workload: &Workload) -> String {
     }
 }
 
+/// The line of one call on one workload.
+fn line(lanes: &mut [Lane], workload: &Workload, sets: &str, call: Call) {
+    compare(lanes, workload, call);
+    let medians = measure(lanes, workload, call);
+    let (name, call_name) = (&workload.name, call.name());
+    print!("| {name} | {sets} | {call_name} | {:.0} |", medians[0]);
+    if let [reference, product] = medians[..] {
+        let bar = workload
+            .bar_of(call)
+            .map_or("-".to_string(), |bar| bar.to_string());
+        print!(" {product:.0} | {:.3} | {bar} |", product / reference);
+    }
+    println!();
+}
+
 fn table(title: &str, lanes: &mut [Lane], workloads: &[Workload], calls: &[Call]) {
     println!("\n### {title}\n");
     if lanes.len() == 2 {
-        println!("| workload | sets | call | reference ns | product ns | product / reference |");
-        println!("|---|---|---|---:|---:|---:|");
+        println!(
+            "| workload | sets | call | reference ns | product ns | product / reference | bar |"
+        );
+        println!("|---|---|---|---:|---:|---:|---:|");
     } else {
         println!("| workload | sets | call | reference ns |");
         println!("|---|---|---|---:|");
     }
     for workload in workloads {
+        workload.check();
+        let sets = sets(workload);
         for &call in calls {
-            let medians = measure(lanes, workload, call);
-            print!(
-                "| {} | {} | {} | {:.0} |",
-                workload.name,
-                sets(workload),
-                call.name(),
-                medians[0]
-            );
-            if let [reference, product] = medians[..] {
-                print!(" {product:.0} | {:.2} |", product / reference);
-            }
-            println!();
+            line(lanes, workload, &sets, call);
         }
     }
 }
 
 fn main() {
+    // With an argument, only the workloads whose names hold it.
+    let part = std::env::args().nth(1).unwrap_or_default();
+    let chosen = |mut list: Vec<Workload>| {
+        list.retain(|workload| workload.name.contains(&part));
+        list
+    };
     let mut lanes = vec![
         Lane::new(Box::new(Reference::new())),
         #[cfg(feature = "product")]
         Lane::new(Box::new(Product)),
     ];
     println!("Median of {BATCHES} batches, nanoseconds per call.");
-    table("Workloads", &mut lanes, &workloads(), &Call::ALL);
-    table(
-        "Growth with the rows",
-        &mut lanes,
-        &growth_with_rows(),
-        &Call::ALL,
-    );
-    table(
-        "Growth with the sets",
-        &mut lanes,
-        &growth_with_sets(),
-        &[Call::Complement],
-    );
+    for (title, list, calls) in [
+        ("Workloads", workloads(), &Call::ALL[..]),
+        ("Growth with the rows", growth_with_rows(), &Call::ALL),
+        (
+            "Growth with the sets",
+            growth_with_sets(),
+            &[Call::Complement],
+        ),
+    ] {
+        table(title, &mut lanes, &chosen(list), calls);
+    }
 }

@@ -16,8 +16,9 @@ compile_error!("the stack measurement switches stacks with x86-64 instructions")
 
 #[cfg(feature = "product")]
 use fusion_bench::ffi::Product;
-use fusion_bench::generate::{growth_with_rows, growth_with_sets, workloads, Pair};
+use fusion_bench::generate::Pair;
 use fusion_bench::reference::Reference;
+use fusion_bench::workloads::{growth_with_rows, growth_with_sets, workloads};
 use fusion_bench::{Call, Unions, MAX_SET_WORDS, MAX_TABLE_WORDS};
 use std::arch::asm;
 use std::hint::black_box;

@@ -2,12 +2,13 @@
 -- and the others. Two numbers with the same positions are equal. Assumes nothing.
 use mathlib.Core.Path.{_≡_, refl, sym, ap, ap₂, _∙_, subst}
 use mathlib.Core.Bool.{Bool, true, false, cond, not, _&&_, _||_, Bool·beq}
+use mathlib.Core.Logic.{⊎-elim}
 use mathlib.Core.List.{List}
-use Prim.Native.Nat.{ℕ, zero, suc, _+_, _-_, _*_, _/_, _%_, _^_, _<_}
+use Prim.Native.Nat.{ℕ, zero, suc, _+_, _-_, _*_, _/_, _%_, _^_, _≤_, _<_}
 use native.Mathlib.Nat.{mod-lt, zero-lt-suc, not-suc-le-zero, le-of-suc-le-suc, div-one, div-div-eq-div-mul, pow-succ', zero-div, div-eq-of-lt, lt-of-lt-of-le, one-mul}
 use native.Mathlib.Omega.{arith}
 use lib.Arith.{bin-ind}
-use lib.Bits.{bitAnd, bitOr, bitXor, and-shr, or-shr, xor-shr, and-mod, or-mod, xor-mod, and-le-r}
+use lib.Bits.{bitAnd, bitOr, bitXor, and-shr, or-shr, xor-shr, and-mod, or-mod, xor-mod, and-le-l, and-le-r}
 use lib.Count.{trailingZeros, under}
 use lib.Pow.{pow-mono, pow-pos, ones-lt, shr-shr, shl-exact}
 use lib.Dec.{eqb, ltb, lit<, eqb·suc-suc, eqb·zero-suc, eqb·suc-zero}
@@ -15,8 +16,8 @@ use borrow.Author.Tests.{eqb-true, eqb-false, eq-eqb, ltb-true, ltb-false}
 use Rattle.definitions.specs.ComplementUnion.{marked}
 use Rattle.definitions.specs.SetList.{bits}
 use Rattle.definitions.proofs.SetWords.{bit-marks}
-use Rattle.definitions.proofs.Bools.{bool-cases, bool-eq, clash, not-so, and-l, and-r, and-i, or-l, or-r}
-use Rattle.bitsets.specs.Bits.{has, both, isSub, butNot, withRow, onlyOne, rowsBelow, Inside, lowest, withoutLowest}
+use Rattle.definitions.proofs.Bools.{bool-cases, bool-eq, clash, not-so, and-l, and-r, and-i, or-l, or-r, or-cases}
+use Rattle.bitsets.specs.Bits.{has, both, either, isSub, butNot, withRow, onlyOne, rowsBelow, Inside, lowest, withoutLowest}
 
 -- position k is in the set
 abbrev pub In : ℕ → ℕ → Type 0
@@ -177,6 +178,18 @@ or-in-l a b k h = has-or a b k ∙ or-l (has a k) (has b k) h
 pub or-in-r : (a b k : ℕ) → In b k → In (bitOr a b) k
 or-in-r a b k h = has-or a b k ∙ or-r (has a k) (has b k) h
 
+pub either-l : (a b k : ℕ) → In a k → In (either a b) k
+unfolding either
+either-l a b k h = or-in-l a b k h
+
+pub either-r : (a b k : ℕ) → In b k → In (either a b) k
+unfolding either
+either-r a b k h = or-in-r a b k h
+
+pub either-cases : {A : Type 0} (a b k : ℕ) → In (either a b) k → (In a k → A) → (In b k → A) → A
+unfolding either
+either-cases a b k h f g = ⊎-elim f g (or-cases (has a k) (has b k) (sym (has-or a b k) ∙ h))
+
 pub both-in : (a b k : ℕ) → In a k → In b k → In (both a b) k
 both-in a b k p q = has-both a b k ∙ and-i p q
 
@@ -279,6 +292,10 @@ pub is-lowest : (set : ℕ) → (set ≡ 0 → ⊥) → Lowest set (lowest set)
 unfolding lowest
 is-lowest set some = trailing-lowest set set some (below-pow set)
 
+-- a set that is not empty has a position
+pub some : (set : ℕ) → (set ≡ 0 → ⊥) → (k : ℕ) × In set k
+some set ne = (lowest set, is-lowest set ne .there)
+
 pub at-lowest : (set m : ℕ) → 0 < set → m ≡ lowest set → Lowest set m
 at-lowest set m some e = subst (Lowest set) (sym e) (is-lowest set (λ z. omega arith))
 
@@ -377,3 +394,17 @@ but-row a i k h d = but-in a (withRow 0 i) k h (not-so (has (withRow 0 i) k) (λ
 
 pub but-self : (a i : ℕ) → In (butNot a (withRow 0 i)) i → ⊥
 but-self a i h = clash (has-with-self 0 i) (but-out a (withRow 0 i) i h)
+
+-- ---- a part of a set
+
+-- that lacks a position of the set is a smaller number
+pub sub-less : (a b k : ℕ) → ((j : ℕ) → In a j → In b j) → In b k → has a k ≡ false → a < b
+unfolding both
+sub-less a b k f h out =
+    let le : a ≤ b = subst (λ (x : ℕ). x ≤ b) (sub-same a b (sub-of a b f)) (and-le-r a b) in
+    let ne : a ≡ b → ⊥ = λ e. clash h (ap (λ (x : ℕ). has x k) (sym e) ∙ out) in
+    omega arith
+
+pub both-less : (a b r : ℕ) → r ≡ both a b → r ≤ a
+unfolding both
+both-less a b r e = subst (λ (x : ℕ). x ≤ a) (sym e) (and-le-l a b)

@@ -1,7 +1,7 @@
 -- Sets of positions as numbers: bit k says whether position k is in the set. No width stands here: a set in several words is the number that they make.
 use mathlib.Core.Path.{_≡_}
 use mathlib.Core.Bool.{Bool, true, cond}
-use Prim.Native.Nat.{ℕ, _-_, _/_, _%_, _^_, _<_}
+use Prim.Native.Nat.{ℕ, zero, suc, _+_, _-_, _/_, _%_, _^_, _<_}
 use lib.Bits.{bitAnd, bitOr, bitXor}
 use lib.Count.{trailingZeros}
 use lib.Dec.{eqb}
@@ -51,3 +51,16 @@ withoutLowest set = bitAnd set (set - 1)
 -- set order: "look at the smallest position that only one of them holds: the set with it comes first"
 unfoldable pub compareBits : ℕ → ℕ → Order
 compareBits a b = cond (eqb a b) Same (cond (has a (lowest (onlyOne a b))) Before After)
+
+-- all of a is in b, as a statement
+abbrev pub Sub : ℕ → ℕ → Type 0
+Sub a b = (k : ℕ) → has a k ≡ true → has b k ≡ true
+
+-- the positions that are in one of them or in both
+unfoldable pub either : ℕ → ℕ → ℕ
+either a b = bitOr a b
+
+-- how many positions below n are in the set
+unfoldable pub sizeBelow : ℕ → ℕ → ℕ
+sizeBelow zero set = 0
+sizeBelow (suc n) set = sizeBelow n set + cond (has set n) 1 0

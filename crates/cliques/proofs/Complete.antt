@@ -1,46 +1,53 @@
--- From a list of maximal sets, whatever search makes it, and its order to what `find_sets` promises. Assumes nothing.
+-- From the sets that the parts give, and their order, to what `find_sets` promises. Assumes nothing.
 use mathlib.Core.Path.{_≡_, refl, sym, ap, _∙_, subst}
 use mathlib.Core.Bool.{Bool}
-use mathlib.Core.List.{List, map}
-use Prim.Native.Nat.{ℕ, suc, _≤_, _<_, min}
+use mathlib.Core.List.{List, [], map}
+use Prim.Native.Nat.{ℕ, suc, _-_, _≤_, _<_, min}
 use native.Mathlib.Omega.{arith}
-use lib.Dec.{ltb}
+use lib.Dec.{eqb, ltb}
 use lib.ListN.{length, take, length-map}
-use lib.Seq.{length-take-le}
-use borrow.Author.Tests.{ltb-true, ltb-false}
+use lib.Seq.{length-take-le, getD-take}
+use borrow.Author.Tests.{eqb-true, eqb-false, ltb-true, ltb-false}
 use Rattle.definitions.specs.Ascending.{ascending}
 use Rattle.definitions.specs.Limits.{maxSets}
 use Rattle.definitions.specs.Lists.{keep, allBelow}
 use Rattle.definitions.specs.Statements.{Stands}
 use Rattle.definitions.specs.ComplementUnion.{subsets, isComplementing, maximalSets}
 use Rattle.definitions.specs.SetList.{bits}
-use Rattle.definitions.proofs.Bools.{bool-cases}
+use Rattle.definitions.proofs.Bools.{bool-cases, clash}
 use Rattle.definitions.proofs.Ascending.{determined, is-rising, ascending-has, ascending-only}
-use Rattle.bitsets.specs.Bits.{compareBits}
-use Rattle.cliques.specs.Graph.{near, Graph, AllSets}
-use Rattle.cliques.specs.Maximal.{Maxima}
-use Rattle.cliques.specs.Search.{rowOf}
+use Rattle.bitsets.specs.Bits.{has, rowsBelow, withRow, compareBits}
+use Rattle.bitsets.proofs.Bits.{In, some, has-none, has-with-self, has-with-old, has-with-cases, same-set, below-of, below-in}
 use Rattle.bitsets.proofs.Order.{setBits}
+use Rattle.cliques.specs.Graph.{near, Graph, AllSets}
+use Rattle.cliques.specs.Maximal.{Once, Max, Adds}
+use Rattle.cliques.specs.Search.{rowOf, adjacent}
+use Rattle.cliques.specs.Parts.{RowsOf, Listed}
 use Rattle.cliques.proofs.Sublists.{ascending-once, no-longer}
-use Rattle.cliques.proofs.Maximal.{Simple, adjacent}
+use Rattle.cliques.proofs.Maximal.{Simple}
+use Rattle.cliques.proofs.Adds.{adds-same}
 use Rattle.cliques.proofs.Listed.{listed, listed-rises, listed-max, max-listed}
+use Rattle.cliques.proofs.ByParts.{Filled, parts-adds}
+use Rattle.cliques.proofs.Turns.{simple}
 
 -- the list has the definition's sets, or `cap` of them
 pub record Counted (near : ℕ → ℕ → Bool) (n cap : ℕ) (l : List ℕ) : Type 0 where
   pub count : length l ≡ min cap (length (listed near n))
   pub sets : length l < cap → ascending compareBits l ≡ listed near n
 
-pub counted : (near : ℕ → ℕ → Bool) (n : ℕ) → Simple near n → (cap : ℕ) (l : List ℕ) → 0 < n → Maxima near n cap l → Counted near n cap l
-counted near n g cap l pos m =
+pub counted : (near : ℕ → ℕ → Bool) (n : ℕ) → Simple near n → (cap : ℕ) (l : List ℕ) → 0 < n → length l ≤ cap → Adds (Max near (rowsBelow n)) cap [] l
+    → Counted near n cap l
+counted near n g cap l pos full m =
     let all = listed near n in
     let own = ascending compareBits l in
-    let within : (x : ℕ) → Stands x own → Stands x all = λ x h. max-listed near n (g .apart) pos x (m .only x (ascending-only setBits x l h)) in
+    let new : l ≡ m .new = m .adds in
+    let within : (x : ℕ) → Stands x own → Stands x all =
+    λ x h. max-listed near n (g .apart) pos x (m .only x (subst (Stands x) new (ascending-only setBits x l h))) in
     let short : length own ≤ length all = no-longer setBits own all (is-rising setBits l) within in
-    let each : length own ≡ length l = ascending-once setBits l (m .once) in
-    let full : length l ≤ cap = m .few in
+    let each : length own ≡ length l = ascending-once setBits l (subst (λ (t : List ℕ). Once t) (sym new) (m .once)) in
     let same : length l < cap → own ≡ all = λ few.
     determined setBits own all (is-rising setBits l) (listed-rises near n) within
-    (λ x h. ascending-has setBits x l (m .all few x (listed-max near n (g .apart) x h))) in
+    (λ x h. ascending-has setBits x l (subst (Stands x) (sym new) (m .all few x (listed-max near n (g .apart) x h)))) in
     record {
       count = bool-cases (ltb (length l) cap)
           (λ t. let few = ltb-true (length l) cap t in let e = ap length (same few) in omega arith)
@@ -52,20 +59,75 @@ pub none-found : (neighbours : List ℕ) (n : ℕ) (list : List ℕ) → n ≡ 0
 unfolding maximalSets keep subsets isComplementing allBelow
 none-found neighbours n list e = subst (λ (m : ℕ). AllSets neighbours m list 0) (sym e) (record { counts = refl; lists = λ h. refl })
 
+-- maximal by one relation, and by another that is the same among the rows
+max-same : (p q : ℕ → ℕ → Bool) (n : ℕ) → ((j k : ℕ) → j < n → p j k ≡ q j k) → (x : ℕ) → Max p (rowsBelow n) x → Max q (rowsBelow n) x
+max-same p q n e x m = record {
+  inside = m .inside;
+  clique = λ j k hj hk d. sym (e j k (below-of n j (m .inside j hj))) ∙ m .clique j k hj hk d;
+  full = λ j h f. m .full j h (λ k r. e j k (below-of n j h) ∙ f k r);
+}
+
+-- all n rows
+pub all-rows : (n last below all : ℕ) → 0 < n → last ≡ n - 1 → below ≡ rowsBelow last → all ≡ withRow below last → all ≡ rowsBelow n
+all-rows n last below all pos el eb ea =
+    same-set all (rowsBelow n)
+    (λ k h. below-in n k (has-with-cases below last k (rw ea at h) (λ p. let l = below-of last k (rw eb at p) in omega arith) (λ p. omega arith)))
+    (λ k h.
+    let l = below-of n k h in
+    rw ea (bool-cases (eqb k last) (λ t. rw (eqb-true k last t) (has-with-self below last))
+    (λ t. let d = eqb-false k last t in has-with-old below last k (rw eb (below-in last k (omega arith))))))
+
 module _ (neighbours : List ℕ) (n : ℕ) (g : Graph neighbours n) where
-  pub simple : Simple (adjacent (rowOf neighbours)) n
-  simple = record { symmetric = g .symmetric; apart = g .apart }
+  -- the words of the first n rows
+  abbrev pub words : List ℕ
+  words = take n neighbours
 
-  module _ (list : List ℕ) (found : ℕ) (some : n ≡ 0 → ⊥) (fits : found ≤ length list)
-      (m : Maxima (near neighbours) n (suc maxSets) (take found list)) where
+  pub size : length words ≡ n
+  size = length-take-le n neighbours (g .rows)
+
+  same : (j k : ℕ) → j < n → near words j k ≡ near neighbours j k
+  same j k h = ap (λ (x : ℕ). has x k) (getD-take n neighbours j 0 h)
+
+  own-graph : Graph words n
+  own-graph = record {
+    rows = omega (arith, size);
+    symmetric = λ j k hj hk. same j k hj ∙ g .symmetric j k hj hk ∙ sym (same k j hk);
+    apart = λ j h. same j j h ∙ g .apart j h;
+  }
+
+  pub start-rows : (width all : ℕ) → n ≤ width → all ≡ rowsBelow n → RowsOf width words all
+  start-rows width all fits e = record {
+    graph = rw size own-graph;
+    bits = omega (arith, size);
+    inside = λ k h. let l = below-of n k (rw e at h) in omega (arith, size);
+  }
+
+  module _ (list : List ℕ) (found all : ℕ) (pos : 0 < n) (fits : found ≤ length list) (few : found ≤ suc maxSets) (ea : all ≡ rowsBelow n)
+      (l : Listed (rowOf words) (suc maxSets) (length words) all [] (take found list)) where
+    pub held : length (take found list) ≡ found
+    held = length-take-le found list fits
+
+    -- a maximal set of some rows is not empty
+    filled : (x : ℕ) → Max (near words) (rowsBelow n) x → (k : ℕ) × In x k
+    filled x m =
+        bool-cases (eqb x 0)
+        (λ t. absurd (m .full 0 (below-in n 0 pos) (λ k h. absurd (clash h (ap (λ (y : ℕ). has y k) (eqb-true x 0 t) ∙ has-none k)))))
+        (λ t. some x (eqb-false x 0 t))
+
+    adds : Adds (Max (near neighbours) (rowsBelow n)) (suc maxSets) [] (take found list)
+    adds =
+        let of-parts : Adds (Filled (rowOf words) n (simple words n own-graph) all) (suc maxSets) [] (take found list) =
+        parts-adds (rowOf words) n (simple words n own-graph) (suc maxSets) (rw size at (l .1)) (λ k h. below-of n k (rw ea at h)) in
+        adds-same (suc maxSets) (Filled (rowOf words) n (simple words n own-graph) all) (Max (near neighbours) (rowsBelow n))
+        (λ x p. max-same (near words) (near neighbours) n same x (rw ea at (p .0)))
+        (λ x m. let own = max-same (near neighbours) (near words) n (λ j k h. sym (same j k h)) x m in (rw ea own, filled x own))
+        of-parts
+
     result : Counted (near neighbours) n (suc maxSets) (take found list)
-    result = counted (near neighbours) n simple (suc maxSets) (take found list) (omega arith) m
+    result = counted (near neighbours) n (simple neighbours n g) (suc maxSets) (take found list) pos (omega (arith, held)) adds
 
-    size : length (take found list) ≡ found
-    size = length-take-le found list fits
-
-    number : found ≡ min (suc maxSets) (length (maximalSets (near neighbours) n))
-    number = sym size ∙ result .count ∙ ap (min (suc maxSets)) (length-map (maximalSets (near neighbours) n) bits)
+    pub number : found ≡ min (suc maxSets) (length (maximalSets (near neighbours) n))
+    number = sym held ∙ result .count ∙ ap (min (suc maxSets)) (length-map (maximalSets (near neighbours) n) bits)
 
     -- more than are listed
     pub many-found : maxSets < found → AllSets neighbours n list found
@@ -74,8 +136,8 @@ module _ (neighbours : List ℕ) (n : ℕ) (g : Graph neighbours n) where
     -- no more than are listed, and put in order
     pub all-found : found ≤ maxSets → (out : List ℕ) (r : ℕ) → r ≤ length out → take r out ≡ ascending compareBits (take found list)
         → AllSets neighbours n out r
-    all-found few out r room o =
-        let same : take r out ≡ map bits (maximalSets (near neighbours) n) = o ∙ result .sets (omega (arith, size)) in
+    all-found small out r room o =
+        let whole : take r out ≡ map bits (maximalSets (near neighbours) n) = o ∙ result .sets (omega (arith, held)) in
         let own : r ≡ length (maximalSets (near neighbours) n) =
-        sym (length-take-le r out room) ∙ ap length same ∙ length-map (maximalSets (near neighbours) n) bits in
-        record { counts = omega (arith, number); lists = λ h. same }
+        sym (length-take-le r out room) ∙ ap length whole ∙ length-map (maximalSets (near neighbours) n) bits in
+        record { counts = omega (arith, number); lists = λ h. whole }

@@ -1,17 +1,17 @@
--- The theory of both searches: maximal sets of a prefix and of what is left of the rows, all of them found once, and in bounded work.
+-- The theory of the search: maximal sets of a part of the rows, all of them found once and in bounded work, and those of all parts.
 pub mod Sublists
 pub mod Marks
 pub mod Maximal
-pub mod Listed
-pub mod Run
-pub mod Once
-pub mod Found
 pub mod Adds
-pub mod Pivot
+pub mod Run
+pub mod ByParts
+pub mod Taking
 pub mod Turns
-pub mod Start
+pub mod Growing
+pub mod PartTurns
 pub mod Place
+pub mod Listed
 pub mod Complete
-pub mod Steps
-pub mod Work
 pub mod Subgraph
+pub mod Work
+pub mod Sorting

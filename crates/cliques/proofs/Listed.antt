@@ -15,9 +15,9 @@ use Rattle.definitions.proofs.Bools.{bool-cases, clash, not-so}
 use Rattle.definitions.proofs.Lists.{stands-map, map-stands, below-true, below-false}
 use Rattle.definitions.proofs.Orders.{sets}
 use Rattle.definitions.proofs.Sets.{Holds, Maximal, holds-within, near-all, near-some-not, listed-is, listed-rise}
-use Rattle.bitsets.specs.Bits.{has, compareBits}
+use Rattle.bitsets.specs.Bits.{has, rowsBelow, compareBits}
 use Rattle.cliques.specs.Maximal.{Max}
-use Rattle.bitsets.proofs.Bits.{has-ext, has-bits}
+use Rattle.bitsets.proofs.Bits.{has-ext, has-bits, below-of, below-in}
 use Rattle.bitsets.proofs.Order.{setBits, set-order}
 use Rattle.cliques.proofs.Sublists.{rising-map}
 use Rattle.cliques.proofs.Marks.{marks, marks-length, marks-at, marks-below}
@@ -34,24 +34,24 @@ module _ (near : ℕ → ℕ → Bool) (n : ℕ) where
   listed-rises = rising-map sets setBits bits (maximalSets near n) (λ s t h k e. set-order s t (size s h ∙ sym (size t k)) ∙ e) (listed-rise near n)
 
   module _ (apart : (j : ℕ) → j < n → near j j ≡ false) where
-    to-max : (s : List Bool) → Maximal near n s → Max near n (bits s)
+    to-max : (s : List Bool) → Maximal near n s → Max near (rowsBelow n) (bits s)
     to-max s m = record {
-      inside = λ k h. omega (arith, m .complementing .size, holds-within s k (sym (has-bits s k) ∙ h));
+      inside = λ k h. below-in n k (omega (arith, m .complementing .size, holds-within s k (sym (has-bits s k) ∙ h)));
       clique = λ j k hj hk d. m .complementing .pairwise j k (sym (has-bits s j) ∙ hj) (sym (has-bits s k) ∙ hk) d;
       full = λ j h f. bool-cases (marked s j)
-          (λ a. clash (f j (has-bits s j ∙ a)) (apart j h))
-          (λ a. let o = m .outside j h a in clash (f (o .0) (has-bits s (o .0) ∙ o .1)) (o .2));
+          (λ a. clash (f j (has-bits s j ∙ a)) (apart j (below-of n j h)))
+          (λ a. let o = m .outside j (below-of n j h) a in clash (f (o .0) (has-bits s (o .0) ∙ o .1)) (o .2));
     }
 
     -- a set that row 0 does not complement all of has a member
-    member : 0 < n → (s : List Bool) → Max near n (bits s) → (k : ℕ) × Holds s k
+    member : 0 < n → (s : List Bool) → Max near (rowsBelow n) (bits s) → (k : ℕ) × Holds s k
     member pos s m =
         let i = below-false (λ k. not (marked s k)) n
         (not-so (allBelow n (λ k. not (marked s k)))
-        (λ t. m .full 0 pos (λ k h. absurd (clash (below-true (λ k. not (marked s k)) n t k (m .inside k h)) (ap not (sym (has-bits s k) ∙ h)))))) in
+        (λ t. m .full 0 (below-in n 0 pos) (λ k h. absurd (clash (below-true (λ k. not (marked s k)) n t k (below-of n k (m .inside k h))) (ap not (sym (has-bits s k) ∙ h)))))) in
         (i .0, not-false (marked s (i .0)) (i .2))
 
-    of-max : 0 < n → (s : List Bool) → length s ≡ n → Max near n (bits s) → Maximal near n s
+    of-max : 0 < n → (s : List Bool) → length s ≡ n → Max near (rowsBelow n) (bits s) → Maximal near n s
     of-max pos s e m = record {
       complementing = record {
         size = e;
@@ -59,15 +59,15 @@ module _ (near : ℕ → ℕ → Bool) (n : ℕ) where
         pairwise = λ j k hj hk d. m .clique j k (has-bits s j ∙ hj) (has-bits s k ∙ hk) d;
       };
       outside = λ j h a. near-some-not near n s j
-          (not-so (nearAll near n s j) (λ t. m .full j h (λ k r. near-all near n s j e t k (sym (has-bits s k) ∙ r))));
+          (not-so (nearAll near n s j) (λ t. m .full j (below-in n j h) (λ k r. near-all near n s j e t k (sym (has-bits s k) ∙ r))));
     }
 
-    pub listed-max : (w : ℕ) → Stands w (listed near n) → Max near n w
+    pub listed-max : (w : ℕ) → Stands w (listed near n) → Max near (rowsBelow n) w
     listed-max w h =
         let a = map-stands bits w (maximalSets near n) h in
-        subst (Max near n) (sym (a .2)) (to-max (a .0) (listed-is near n (a .0) .0 (a .1)))
+        subst (Max near (rowsBelow n)) (sym (a .2)) (to-max (a .0) (listed-is near n (a .0) .0 (a .1)))
 
-    pub max-listed : 0 < n → (w : ℕ) → Max near n w → Stands w (listed near n)
+    pub max-listed : 0 < n → (w : ℕ) → Max near (rowsBelow n) w → Stands w (listed near n)
     max-listed pos w m =
         let s = marks n (has w) in
         let e : bits s ≡ w =
@@ -75,6 +75,6 @@ module _ (near : ℕ → ℕ → Bool) (n : ℕ) where
         (λ t.
         let l = ltb-false k n t in
         not-so (marked s k) (λ h. let r = marks-below n (has w) k h in omega arith)
-        ∙ sym (not-so (has w k) (λ h. let r = m .inside k h in omega arith)))) in
+        ∙ sym (not-so (has w k) (λ h. let r = below-of n k (m .inside k h) in omega arith)))) in
         subst (λ (x : ℕ). Stands x (listed near n)) e
-        (stands-map bits s (maximalSets near n) (listed-is near n s .1 (of-max pos s (marks-length n (has w)) (subst (Max near n) (sym e) m))))
+        (stands-map bits s (maximalSets near n) (listed-is near n s .1 (of-max pos s (marks-length n (has w)) (subst (Max near (rowsBelow n)) (sym e) m))))

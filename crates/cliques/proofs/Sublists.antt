@@ -22,6 +22,14 @@ once-join (x ∷ l) m o p d = (
   once-join l m (o .1) p (λ y h k. d y (inr h) k),
 )
 
+-- the images of different elements are different
+pub once-map : {A B : Type 0} (f : A → B) (l : List A) → ((x y : A) → Stands x l → Stands y l → f x ≡ f y → x ≡ y) → Once l → Once (map f l)
+once-map f [] g o = tt
+once-map f (x ∷ l) g o = (
+  λ h. let m = map-stands f (f x) l h in o .0 (subst (λ (y : _). Stands y l) (sym (g x (m .0) (inl refl) (inr (m .1)) (m .2))) (m .1)),
+  once-map f l (λ y z p q. g y z (inr p) (inr q)) (o .1),
+)
+
 module _ {A : Type 0} {compare : A → A → Order} (laws : Orders compare) where
   -- a function that keeps the order of the list's elements keeps the list ascending
   pub rising-map : {B : Type 0} {compare₂ : B → B → Order} (laws₂ : Orders compare₂) (f : A → B) (l : List A)

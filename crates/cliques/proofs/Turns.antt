@@ -1,93 +1,125 @@
--- The calls of the quick search: what each is given, and what it adds to the list. Assumes nothing.
-use mathlib.Core.Path.{_≡_}
-use mathlib.Core.Bool.{true}
+-- A call of the search that decides a row: what the calls that it makes are asked, and the run that its own is made of. Assumes nothing.
+use mathlib.Core.Path.{_≡_, refl, sym, ap, _∙_, subst}
+use mathlib.Core.Bool.{true, false}
 use mathlib.Core.List.{List, [], _∷_, _++_}
-use Prim.Native.Nat.{ℕ, _≤_, _<_}
+use Prim.Native.Nat.{ℕ, zero, suc, _+_, _-_, _≤_, _<_}
 use native.Mathlib.Omega.{arith}
-use lib.ListN.{length}
-use Rattle.definitions.proofs.Bools.{clash}
-use Rattle.bitsets.specs.Bits.{has, both, butNot, withRow, lowest, withoutLowest}
-use Rattle.cliques.specs.Graph.{near}
-use Rattle.cliques.specs.Quick.{Sub, Within, Meeting, Pivoted, Asked, Adds}
-use Rattle.cliques.specs.Search.{rowOf}
-use Rattle.bitsets.proofs.Bits.{Lowest, has-none, at-lowest}
-use Rattle.cliques.proofs.Complete.{simple}
-use Rattle.cliques.proofs.Maximal.{Simple, adjacent}
-use Rattle.cliques.proofs.Adds.{adds-none, adds-one, adds-same, adds-both}
-use Rattle.cliques.proofs.Pivot.{end-within, end-only, end-blocked, pivot-meets, grown-parted, past-parted, grown-has, left-without, first-ahead, rest-sub, taken-meets, left-meets, meets-split}
+use lib.ListN.{length, take}
+use lib.Seq.{length-take-le}
+use Rattle.bitsets.specs.Bits.{isSub, withRow, lowest, withoutLowest}
+use Rattle.cliques.specs.Graph.{near, Graph}
+use Rattle.cliques.specs.Maximal.{Max}
+use Rattle.cliques.specs.Search.{rowOf, adjacent, taken, MayTake, Split, Run, stops, lists, joins, leaves, takes, Ran, Ready, Asked}
+use Rattle.cliques.proofs.Maximal.{Simple, Step, joined, left, took, step-max}
+use Rattle.cliques.proofs.Run.{split-row, split-new, split-next}
 
-module _ {width cap : ℕ} {neighbours : List ℕ} {set ahead done : ℕ} {list : List ℕ} (q : Asked width cap neighbours set ahead done list) where
-  abbrev n : ℕ
-  n = length neighbours
+-- the relation that a graph's words say
+pub simple : (neighbours : List ℕ) (n : ℕ) → Graph neighbours n → Simple (adjacent (rowOf neighbours)) n
+simple neighbours n g = record { symmetric = g .symmetric; apart = g .apart }
 
+-- ---- no row is decided
+
+module _ (N : ℕ → ℕ) (cap d rest set count : ℕ) (list : List ℕ) (fits : count ≤ length list) where
+  pub run-stops : (undecided : ℕ) → cap ≤ count → Ran N cap undecided d rest set (take count list) (take count list)
+  run-stops undecided h = (1, stops {l = take count list} (omega (arith, length-take-le count list fits)))
+
+  pub run-lists : (undecided : ℕ) → undecided ≡ 0 → count < cap → (out : List ℕ) → out ≡ take count list ++ (set ∷ [])
+      → Ran N cap undecided d rest set (take count list) out
+  run-lists undecided e h out o = (
+    1,
+    subst (λ (f : ℕ). Run N cap f d rest set (take count list) out 1) (sym e)
+        (subst (λ (l : List ℕ). Run N cap 0 d rest set (take count list) l 1) (sym o) (lists (omega (arith, length-take-le count list fits)))),
+  )
+
+-- ---- a row is
+
+-- the first of the undecided rows, those that are undecided later, and those that are decided then
+pub record Turn (width cap : ℕ) (neighbours : List ℕ) (decided rest undecided set : ℕ) (list : List ℕ) (count i later known : ℕ) : Type 0 where
+  pub ready : Ready width cap neighbours decided rest undecided set list count
+  pub some : undecided ≡ 0 → ⊥
+  pub few : count < cap
+  pub row : i ≡ lowest rest
+  pub rows-later : later ≡ withoutLowest rest
+  pub rows-known : known ≡ withRow decided i
+
+module _ {width cap : ℕ} {neighbours : List ℕ} {decided rest undecided set : ℕ} {list : List ℕ} {count i later known : ℕ}
+    (t : Turn width cap neighbours decided rest undecided set list count i later known) where
   abbrev N : ℕ → ℕ
   N = rowOf neighbours
 
-  g : Simple (adjacent N) n
-  g = simple neighbours n (q .graph)
+  abbrev s : Split (length neighbours) decided rest undecided
+  s = t .ready .split
 
-  -- ---- the search within a part of the rows
+  pub row-below : i < length neighbours
+  row-below = split-row s (t .some) i (t .row)
 
-  module _ (old : List ℕ) (steps : ℕ) where
-    pub adds-end : ahead ≡ 0 → done ≡ 0 → (out : List ℕ) → out ≡ old ++ (set ∷ []) → Adds (Within (near neighbours) n set ahead) cap old steps out steps
-    adds-end e f out o =
-        adds-one cap (Within (near neighbours) n set ahead) old steps set (end-within N n g set ahead done (q .parts) e f)
-        (end-only N n g set ahead done (q .parts) e) out o
+  pub row-bit : i < width
+  row-bit = omega (arith, row-below, t .ready .bits)
 
-    pub adds-blocked : ahead ≡ 0 → (done ≡ 0 → ⊥) → Adds (Within (near neighbours) n set ahead) cap old steps old steps
-    adds-blocked e some =
-        adds-none cap (Within (near neighbours) n set ahead) old steps (λ _ _ x w. end-blocked N n g set ahead done (q .parts) e some x w)
+  pub asked : Asked width neighbours decided set i
+  asked = record { graph = t .ready .graph; bits = t .ready .bits; past = s .past; maximal = t .ready .maximal; row = row-below }
 
-    pub adds-branches : (branch : ℕ) → Pivoted (near neighbours) ahead done branch → (out : List ℕ) (over : ℕ)
-        → Adds (Meeting (near neighbours) n set ahead branch) cap old steps out over → Adds (Within (near neighbours) n set ahead) cap old steps out over
-    adds-branches branch b out over a =
-        adds-same cap (Meeting (near neighbours) n set ahead branch) (Within (near neighbours) n set ahead) old out steps over
-        (λ x m. m .0) (pivot-meets N n g set ahead done (q .parts) branch b) a
+  ready-step : (next : ℕ) → Step N decided i set next → (out : List ℕ) (found : ℕ) → length out ≡ length list → found ≤ cap
+      → Ready width cap neighbours known later (undecided - 1) next out found
+  ready-step next step out found size few = record {
+    graph = t .ready .graph;
+    bits = t .ready .bits;
+    split = rw (t .rows-known, t .rows-later) (split-next s (t .some) i (t .row));
+    maximal = rw (t .rows-known)
+        (step-max N (length neighbours) (simple neighbours (length neighbours) (t .ready .graph)) decided (s .past) i row-below
+        (split-new s (t .some) i (t .row)) set next (t .ready .maximal) step);
+    room = omega (arith, t .ready .room);
+    few = few;
+  }
 
-    -- no row to branch on
-    pub adds-nothing : (branch : ℕ) → branch ≡ 0 → Adds (Meeting (near neighbours) n set ahead branch) cap old steps old steps
-    adds-nothing branch e =
-        adds-none cap (Meeting (near neighbours) n set ahead branch) old steps (λ _ _ x m. clash (m .2) (rw e (has-none (m .1))))
+  module _ (next : ℕ) (out : List ℕ) (found : ℕ) (size : length out ≡ length list) (few : found ≤ cap) where
+    pub ready-joins : isSub set (N i) ≡ true → next ≡ withRow set i → Ready width cap neighbours known later (undecided - 1) next out found
+    ready-joins h e = ready-step next (joined h (sym e)) out found size few
 
-    -- no more sets, or no more steps
-    pub adds-full : (branch : ℕ) → cap ≤ length old → Adds (Meeting (near neighbours) n set ahead branch) cap old steps old steps
-    adds-full branch h = adds-none cap (Meeting (near neighbours) n set ahead branch) old steps (λ _ few x m. omega arith)
+    pub ready-leaves : isSub set (N i) ≡ false → next ≡ set → Ready width cap neighbours known later (undecided - 1) next out found
+    ready-leaves h e = ready-step next (left h (sym e)) out found size few
 
-    pub adds-ended : (branch : ℕ) → steps ≡ 0 → Adds (Meeting (near neighbours) n set ahead branch) cap old steps old steps
-    adds-ended branch e = adds-none cap (Meeting (near neighbours) n set ahead branch) old steps (λ some _ x m. some e)
+    pub ready-takes : isSub set (N i) ≡ false → MayTake N decided set i → next ≡ taken N set i
+        → Ready width cap neighbours known later (undecided - 1) next out found
+    ready-takes h m e = ready-step next (took h m (sym e)) out found size few
 
-  -- ---- a row to branch on
+  -- the runs of the calls, told of the rows by their definitions
+  abbrev To : ℕ → List ℕ → List ℕ → Type 0
+  To next l out = Ran N cap (undecided - 1) known later next l out
 
-  module _ (branch : ℕ) (sub : Sub branch ahead) (some : 0 < branch) (row : ℕ) (e : row ≡ lowest branch) where
-    first : Lowest branch row
-    first = at-lowest branch row some e
+  abbrev own : List ℕ → Type 0
+  own out = Ran N cap undecided decided rest set (take count list) out
 
-    there : has ahead row ≡ true
-    there = first-ahead N n g set ahead done (q .parts) branch row sub first
+  to-run : (next : ℕ) (l out : List ℕ) (r : To next l out)
+      → Run N cap (undecided - 1) (withRow decided (lowest rest)) (withoutLowest rest) next l out (r .0)
+  to-run next l out r =
+      subst (λ (k : ℕ). Run N cap (undecided - 1) k (withoutLowest rest) next l out (r .0)) (t .rows-known ∙ ap (withRow decided) (t .row))
+      (subst (λ (k : ℕ). Run N cap (undecided - 1) known k next l out (r .0)) (t .rows-later) (r .1))
 
-    pub row-below : row < n
-    row-below = q .parts .left row there .0
+  from-suc : {out : List ℕ} {calls : ℕ} → Run N cap (suc (undecided - 1)) decided rest set (take count list) out calls → own out
+  from-suc {out} {calls} r =
+      let e : suc (undecided - 1) ≡ undecided = omega (arith, t .some) in
+      (calls, subst (λ (f : ℕ). Run N cap f decided rest set (take count list) out calls) e r)
 
-    pub asked-grown : (grown inner outer : ℕ) → grown ≡ withRow set row → inner ≡ both ahead (N row) → outer ≡ both done (N row)
-        → Asked width cap neighbours grown inner outer list
-    asked-grown grown inner outer eg ei eo =
-        rw (eg, ei, eo) (record { graph = q .graph; bits = q .bits; parts = grown-parted N n g set ahead done (q .parts) row there; room = q .room })
+  short : length (take count list) < cap
+  short = omega (arith, length-take-le count list (omega (arith, t .ready .room, t .few)), t .few)
 
-    module _ (left rest : ℕ) (el : left ≡ butNot ahead (withRow 0 row)) (er : rest ≡ withoutLowest branch) where
-      pub asked-left : (past : ℕ) → past ≡ withRow done row → (out : List ℕ) → length out ≡ length list → Asked width cap neighbours set left past out
-      asked-left past ep out size =
-          rw (el, ep) (record { graph = q .graph; bits = q .bits; parts = past-parted N n g set ahead done (q .parts) row there; room = omega (arith, q .room, size) })
+  module _ (out : List ℕ) where
+    pub run-joins : isSub set (N i) ≡ true → (next : ℕ) → next ≡ withRow set i → To next (take count list) out → own out
+    run-joins h next e r =
+        from-suc (joins short (ap (λ (k : ℕ). isSub set (N k)) (sym (t .row)) ∙ h)
+        (subst (λ (x : ℕ). Run N cap (undecided - 1) (withRow decided (lowest rest)) (withoutLowest rest) x (take count list) out (r .0))
+        (e ∙ ap (withRow set) (t .row)) (to-run next (take count list) out r)))
 
-      pub rest-left : Sub rest left
-      rest-left = rw (el, er) (rest-sub N n g set ahead done (q .parts) branch row sub first)
+    pub run-leaves : isSub set (N i) ≡ false → (MayTake N decided set i → ⊥) → To set (take count list) out → own out
+    run-leaves h m r =
+        from-suc (leaves short (ap (λ (k : ℕ). isSub set (N k)) (sym (t .row)) ∙ h) (λ y. m (subst (MayTake N decided set) (sym (t .row)) y))
+        (to-run set (take count list) out r))
 
-      pub adds-turn : (grown inner : ℕ) → grown ≡ withRow set row → inner ≡ both ahead (N row) → (old mid out : List ℕ) (steps fewer between over : ℕ) → fewer ≤ steps
-          → Adds (Within (near neighbours) n grown inner) cap old fewer mid between → Adds (Meeting (near neighbours) n set left rest) cap mid between out over
-          → Adds (Meeting (near neighbours) n set ahead branch) cap old steps out over
-      adds-turn grown inner eg ei old mid out steps fewer between over less a b =
-          adds-both cap (Within (near neighbours) n (withRow set row) (both ahead (N row)))
-          (Meeting (near neighbours) n set (butNot ahead (withRow 0 row)) (withoutLowest branch)) (Meeting (near neighbours) n set ahead branch)
-          (taken-meets N n g set ahead done (q .parts) branch row sub first) (left-meets N n g set ahead done (q .parts) branch row sub first)
-          (meets-split N n g set ahead done (q .parts) branch row sub first)
-          (λ x w m. left-without N n g set ahead done (q .parts) row there x (m .0) (grown-has N n g set ahead done (q .parts) row there x w))
-          old mid out steps fewer between over less (rw (eg, ei) at a) (rw (el, er) at b)
+    pub run-takes : isSub set (N i) ≡ false → MayTake N decided set i → (next : ℕ) → next ≡ taken N set i → (mid : List ℕ)
+        → To next (take count list) mid → To set mid out → own out
+    run-takes h m next e mid a b =
+        from-suc (takes short (ap (λ (k : ℕ). isSub set (N k)) (sym (t .row)) ∙ h) (subst (MayTake N decided set) (t .row) m)
+        (subst (λ (x : ℕ). Run N cap (undecided - 1) (withRow decided (lowest rest)) (withoutLowest rest) x (take count list) mid (a .0))
+        (e ∙ ap (taken N set) (t .row)) (to-run next (take count list) mid a))
+        (to-run set mid out b))

@@ -1,22 +1,23 @@
--- The work of the search is bounded: with n rows it calls itself at most n times for each set that it lists, and n times more where the list
--- was full before it was done. Every call on a list that is not full gains a set. Assumes nothing.
-use mathlib.Core.Path.{_≡_, refl, subst}
-use mathlib.Core.List.{List, [], _∷_, _++_}
-use Prim.Native.Nat.{ℕ, suc, _+_, _*_, _≤_, _<_, zero-le}
-use native.Mathlib.Nat.{suc-mul, zero-mul, mul-zero, mul-le-mul-left}
+-- The work of the search is bounded, over all parts together: with n rows its calls are at most n times the sets that are listed, and one more;
+-- where the list was full before it was done, at most n more. Every call on a list that is not full gains a set. Assumes nothing.
+use mathlib.Core.Path.{_≡_, refl, sym, ap, _∙_, subst}
+use mathlib.Core.List.{List, [], _∷_, _++_, map}
+use Prim.Native.Nat.{ℕ, zero, suc, _+_, _*_, _≤_, _<_, zero-le}
+use native.Mathlib.Nat.{suc-mul, zero-mul, mul-zero, add-mul, mul-add, mul-le-mul-left, mul-le-mul-right}
 use native.Mathlib.Omega.{arith}
 use lib.Dec.{ltb}
-use lib.ListN.{length, length-append, length-map}
+use lib.ListN.{length, take, length-append, length-map}
 use borrow.Author.Tests.{ltb-true, ltb-false}
 use Rattle.definitions.specs.Limits.{maxSets, maxUnionRows}
 use Rattle.definitions.specs.ComplementUnion.{maximalSets}
-use Rattle.definitions.specs.SetList.{bits}
-use Rattle.definitions.proofs.Bools.{bool-cases}
+use Rattle.definitions.proofs.Bools.{bool-cases, clash}
+use Rattle.bitsets.specs.Bits.{butNot, either, Inside, rowsBelow, sizeBelow}
+use Rattle.bitsets.proofs.Bits.{but-l, below-of, below-in}
+use Rattle.bitsets.proofs.Sizes.{size-none, size-all, size-sub, size-parts, size-some}
 use Rattle.cliques.specs.Graph.{near, Graph}
-use Rattle.cliques.specs.Search.{rowOf, searchSets, searchCalls}
-use Rattle.cliques.proofs.Run.{Run, stops, lists, joins, leaves, takes, run, capped}
-use Rattle.cliques.proofs.Found.{found as found-all}
-use Rattle.cliques.proofs.Complete.{counted, simple}
+use Rattle.cliques.specs.Search.{rowOf, Run, stops, lists, joins, leaves, takes, Ready}
+use Rattle.cliques.specs.Parts.{Part, Common, Parts, ends, fills, next, Listed}
+use Rattle.cliques.proofs.Complete.{words, size, held, number}
 
 -- ---- a call on a list that is not full, with f rows undecided
 
@@ -33,7 +34,8 @@ module _ (cap f : ℕ) where
     full = omega (arith, b .gains, b .full, suc-mul f (length l), suc-mul f (length out));
   }
 
-  two-more : (l mid out : List ℕ) (calls more : ℕ) → Bounded cap f l mid calls → length mid < cap → Bounded cap f mid out more → Bounded cap (suc f) l out (suc (calls + more))
+  two-more : (l mid out : List ℕ) (calls more : ℕ) → Bounded cap f l mid calls → length mid < cap → Bounded cap f mid out more
+      → Bounded cap (suc f) l out (suc (calls + more))
   two-more l mid out calls more a h b = record {
     gains = omega (arith, a .gains, b .gains);
     done = λ few. omega (arith, a .gains, b .gains, a .done h, b .done few, suc-mul f (length l), suc-mul f (length out));
@@ -48,16 +50,16 @@ module _ (cap f : ℕ) where
     full = omega (arith, a .gains, a .full, suc-mul f (length l), suc-mul f (length mid));
   }
 
-module _ (N : ℕ → ℕ) (cap n : ℕ) where
+module _ (N : ℕ → ℕ) (cap : ℕ) where
   -- a call on a full list is the only one
-  stopped : {f i set calls : ℕ} {l out : List ℕ} → Run N cap f i set l out calls → cap ≤ length l → (out ≡ l) × (calls ≡ 1)
+  stopped : {f d rest set calls : ℕ} {l out : List ℕ} → Run N cap f d rest set l out calls → cap ≤ length l → (out ≡ l) × (calls ≡ 1)
   stopped (stops h) k = (refl, refl)
   stopped (lists h) k = absurd (omega arith)
   stopped (joins h s a) k = absurd (omega arith)
   stopped (leaves h s m a) k = absurd (omega arith)
   stopped (takes h s m a b) k = absurd (omega arith)
 
-  bounded : {f i set calls : ℕ} {l out : List ℕ} → Run N cap f i set l out calls → length l < cap → Bounded cap f l out calls
+  bounded : {f d rest set calls : ℕ} {l out : List ℕ} → Run N cap f d rest set l out calls → length l < cap → Bounded cap f l out calls
   bounded (stops h) few = absurd (omega arith)
   bounded {set = set} {l = l} (lists h) few =
       let size : length (l ++ (set ∷ [])) ≡ suc (length l) = simp length-append (omega arith) in
@@ -76,37 +78,136 @@ module _ (N : ℕ → ℕ) (cap n : ℕ) where
       let z = stopped b (ltb-false (length mid) cap u) in
       rw (z .0, z .1) (last-more cap f l mid _ first (ltb-false (length mid) cap u)))
 
-  abbrev found : List ℕ
-  found = searchSets N cap n 0 0 []
+  -- ---- part by part: r rows are left, and t sets more are listed
 
-  whole : 0 < cap → Bounded cap n [] found (searchCalls N cap n 0 0 [])
-  whole pos = bounded (run N cap n 0 0 []) pos
+  pub record Total (r : ℕ) (l out : List ℕ) (calls : ℕ) : Type 0 where
+    pub more : ℕ
+    pub grown : length out ≡ length l + more
+    pub none : r ≡ 0 → calls ≡ 0
+    pub done : length out < cap → calls ≤ suc (r * more)
+    pub full : calls ≤ suc (r * more + r)
 
-  -- a search that is not cut short
-  pub calls-done : 0 < cap → length found < cap → searchCalls N cap n 0 0 [] ≤ suc (n * length found)
-  calls-done pos few = omega (arith, whole pos .done few, mul-zero n)
+  -- a part of p rows with s sets, f of its rows searched, and then t sets of the q rows that are left
+  sum : (f p q s t first later : ℕ) → f ≤ p → 0 < s → first ≤ suc (f * s) → (q ≡ 0 → later ≡ 0) → (extra : ℕ) → extra ≤ q → later ≤ suc (q * t + extra)
+      → first + later ≤ suc ((p + q) * (s + t) + extra)
+  sum f p zero s t first later le pos a none extra ex b =
+      let z = none refl in
+      omega (arith, mul-le-mul-right {m = f} {n = p} s le, add-mul p 0 (s + t), mul-add p s t)
+  sum f p (suc q) s t first later le pos a none extra ex b =
+      omega (arith, mul-le-mul-right {m = f} {n = p} s le, add-mul p (suc q) (s + t), mul-add p s t, mul-add (suc q) s t, suc-mul q s)
 
-  -- any search
-  pub calls-bound : 0 < cap → searchCalls N cap n 0 0 [] ≤ suc (n * length found + n)
-  calls-bound pos = omega (arith, whole pos .full, mul-zero n)
+  module _ (n : ℕ) where
+    -- no call is made on a full list
+    over : {rows calls : ℕ} {l out : List ℕ} → Parts N cap n rows l out calls → cap ≤ length l → calls ≡ 0
+    over (ends e) h = refl
+    over (fills e) h = refl
+    over (next common new few p c a b) h = absurd (omega arith)
 
-  pub calls-most : 0 < cap → searchCalls N cap n 0 0 [] ≤ suc (n * cap + n)
-  calls-most pos = omega (arith, calls-bound pos, mul-le-mul-left n (capped N cap (run N cap n 0 0 []) zero-le))
+    pub total : {rows calls : ℕ} {l out : List ℕ} → Parts N cap n rows l out calls → Inside rows n → Total (sizeBelow n rows) l out calls
+    total {l = l} (ends e) h = record {
+      more = 0;
+      grown = omega arith;
+      none = λ _. refl;
+      done = λ _. zero-le;
+      full = zero-le;
+    }
+    total {l = l} (fills e) h = record {
+      more = 0;
+      grown = omega arith;
+      none = λ _. refl;
+      done = λ _. zero-le;
+      full = zero-le;
+    }
+    total {rows} {l = l} {out = out} (next {part = part} {calls = calls} {more = later} common new few p c a b) h =
+        let core = butNot part common in
+        let mid = l ++ map (λ s. either s common) new in
+        let s = length new in
+        let first : Bounded cap (sizeBelow n core) l (l ++ new) calls = bounded a few in
+        let rest : Total (sizeBelow n (butNot rows part)) mid out later = total b (λ k q. h k (but-l rows part k q)) in
+        let size : length mid ≡ length l + s = length-append l (map (λ s. either s common) new) ∙ ap (λ (k : ℕ). length l + k) (length-map new (λ s. either s common)) in
+        let own : length (l ++ new) ≡ length l + s = length-append l new in
+        let wide : sizeBelow n core ≤ sizeBelow n part = size-sub n core part (but-l part common) in
+        let rows-are : sizeBelow n rows ≡ sizeBelow n part + sizeBelow n (butNot rows part) = size-parts n rows part (p .within) in
+        let some : 0 < sizeBelow n part = size-some n part (p .row) (λ k q. h k (p .within k q)) (p .there) in
+        let pos : 0 < s = omega (arith, first .gains) in
+        let spread : sizeBelow n core * length (l ++ new) ≡ sizeBelow n core * length l + sizeBelow n core * s =
+        ap (λ (k : ℕ). sizeBelow n core * k) own ∙ mul-add (sizeBelow n core) (length l) s in
+        record {
+          more = s + rest .more;
+          grown = omega (arith, rest .grown);
+          none = λ e. absurd (omega arith);
+          done = λ small.
+              let under : calls ≤ suc (sizeBelow n core * s) = omega (arith, first .done (omega (arith, rest .grown))) in
+              subst (λ (k : ℕ). calls + later ≤ suc (k * (s + rest .more))) (sym rows-are)
+              (omega (
+                arith,
+                sum (sizeBelow n core) (sizeBelow n part) (sizeBelow n (butNot rows part)) s (rest .more) calls later wide pos under (rest .none) 0 zero-le
+                    (omega (arith, rest .done small)),
+              ));
+          full = subst (λ (k : ℕ). calls + later ≤ suc (k * (s + rest .more) + k)) (sym rows-are)
+              (bool-cases (ltb (length mid) cap)
+              (λ u.
+              let under : calls ≤ suc (sizeBelow n core * s) = omega (arith, first .done (omega (arith, ltb-true (length mid) cap u))) in
+              omega (
+                arith,
+                sum (sizeBelow n core) (sizeBelow n part) (sizeBelow n (butNot rows part)) s (rest .more) calls later wide pos under (rest .none)
+                    (sizeBelow n (butNot rows part)) (omega arith) (rest .full),
+              ))
+              (λ u.
+              let z = over b (ltb-false (length mid) cap u) in
+              omega (
+                arith,
+                z,
+                first .full,
+                mul-le-mul-right {m = sizeBelow n core} {n = sizeBelow n part} s wide,
+                add-mul (sizeBelow n part) (sizeBelow n (butNot rows part)) (s + rest .more),
+                mul-add (sizeBelow n part) s (rest .more),
+              )));
+        }
 
--- ---- the search of `find_sets`
+-- ---- the whole of `find_sets`: n rows, and no set in the list before
+
+module _ (N : ℕ → ℕ) (cap n : ℕ) {out : List ℕ} {calls : ℕ} (p : Parts N cap n (rowsBelow n) [] out calls) where
+  all : Total N cap (sizeBelow n (rowsBelow n)) [] out calls
+  all = total N cap n p (below-of n)
+
+  sets : all .more ≡ length out
+  sets = omega (arith, all .grown)
+
+  -- where not all sets were cut off, rows × sets + 1 calls at most
+  pub calls-done : length out < cap → calls ≤ suc (n * length out)
+  calls-done few = subst (λ (k : ℕ). calls ≤ suc (k * length out)) (size-all n) (subst (λ (k : ℕ). calls ≤ suc (sizeBelow n (rowsBelow n) * k)) sets (all .done few))
+
+  -- and in any case as many more as there are rows
+  pub calls-bound : calls ≤ suc (n * length out + n)
+  calls-bound =
+      subst (λ (k : ℕ). calls ≤ suc (k * length out + k)) (size-all n)
+      (subst (λ (k : ℕ). calls ≤ suc (sizeBelow n (rowsBelow n) * k + sizeBelow n (rowsBelow n))) sets (all .full))
+
+  -- for a list that takes no more than `cap` sets, whatever the graph
+  pub calls-most : length out ≤ cap → calls ≤ suc (n * cap + n)
+  calls-most few = omega (arith, calls-bound, mul-le-mul-left n few)
 
 -- at most 64 × 1,025 + 64 + 1 calls, for any graph
-pub most-calls : (neighbours : List ℕ) (n : ℕ) → n ≤ maxUnionRows
-    → searchCalls (rowOf neighbours) (suc maxSets) n 0 0 [] ≤ suc (maxUnionRows * suc maxSets + maxUnionRows)
-most-calls neighbours n h = omega (arith, calls-most (rowOf neighbours) (suc maxSets) n (omega arith))
+pub most-calls : (N : ℕ → ℕ) (n : ℕ) {out : List ℕ} {calls : ℕ} → n ≤ maxUnionRows → Parts N (suc maxSets) n (rowsBelow n) [] out calls → length out ≤ suc maxSets
+    → calls ≤ suc (maxUnionRows * suc maxSets + maxUnionRows)
+most-calls N n h p few = omega (arith, calls-most N (suc maxSets) n p few)
 
--- where there are at most 1,024 maximal sets, at most n calls for each, and the first
-pub few-calls : (neighbours : List ℕ) (n : ℕ) → Graph neighbours n → 0 < n → length (maximalSets (near neighbours) n) ≤ maxSets
-    → searchCalls (rowOf neighbours) (suc maxSets) n 0 0 [] ≤ suc (n * length (maximalSets (near neighbours) n))
-few-calls neighbours n g pos few =
-    let N = rowOf neighbours in
-    let s = simple neighbours n g in
-    let l = searchSets N (suc maxSets) n 0 0 [] in
-    let e : length l ≡ length (maximalSets (near neighbours) n) =
-    omega (arith, counted (near neighbours) n s (suc maxSets) l pos (found-all N n s (suc maxSets) l refl) .count, length-map (maximalSets (near neighbours) n) bits) in
-    subst (λ (k : ℕ). searchCalls N (suc maxSets) n 0 0 [] ≤ suc (n * k)) e (calls-done N (suc maxSets) n (omega arith) (omega arith))
+-- of what `list_parts` promises, where there are at most 1,024 maximal sets: at most n calls for each, and one more
+pub few-calls : (neighbours : List ℕ) (n : ℕ) (g : Graph neighbours n) (list : List ℕ) (found all : ℕ) → 0 < n → found ≤ length list → found ≤ suc maxSets
+    → all ≡ rowsBelow n → (l : Listed (rowOf (words neighbours n g)) (suc maxSets) (length (words neighbours n g)) all [] (take found list))
+    → length (maximalSets (near neighbours) n) ≤ maxSets → l .0 ≤ suc (n * length (maximalSets (near neighbours) n))
+few-calls neighbours n g list found all pos fits few ea l small =
+    let number = number neighbours n g list found all pos fits few ea l in
+    let held = held neighbours n g list found all pos fits few ea l in
+    let same : length (take found list) ≡ length (maximalSets (near neighbours) n) = omega arith in
+    subst (λ (k : ℕ). l .0 ≤ suc (n * k)) same
+    (calls-done (rowOf (words neighbours n g)) (suc maxSets) n
+    (subst (λ (x : ℕ). Parts (rowOf (words neighbours n g)) (suc maxSets) n x [] (take found list) (l .0)) ea
+    (subst (λ (m : ℕ). Parts (rowOf (words neighbours n g)) (suc maxSets) m all [] (take found list) (l .0)) (size neighbours n g) (l .1))) (omega arith))
+
+-- calls are open inside each other while the count of undecided rows falls: with the last, which decides none, at most one more than there are rows
+pub most-open : {width cap : ℕ} {neighbours : List ℕ} {decided rest undecided set : ℕ} {list : List ℕ} {count : ℕ}
+    → Ready width cap neighbours decided rest undecided set list count → undecided ≤ width
+most-open {neighbours = neighbours} {rest = rest} r =
+    omega (arith, r .bits, r .split .counted, size-sub (length neighbours) rest (rowsBelow (length neighbours)) (λ k h. below-in (length neighbours) k (r .split .ahead k h)), size-all (length neighbours))

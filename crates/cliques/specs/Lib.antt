@@ -1,5 +1,7 @@
--- What the search is asked and what it promises (Graph), and what its parts compute (Search) or list (Maximal, Quick).
+-- What `find_sets` is asked and what it promises (Graph), maximal sets as numbers (Maximal), a run of the search (Search), the rows part by
+-- part (Parts), and runs of sets that are merged (Runs).
 pub mod Graph
 pub mod Maximal
-pub mod Quick
 pub mod Search
+pub mod Parts
+pub mod Runs

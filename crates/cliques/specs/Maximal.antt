@@ -1,30 +1,36 @@
--- Maximal sets as numbers, and what a list of them has to be, whatever search makes it.
+-- Maximal sets as numbers, of any set of rows, and what it means that they are put into a list.
 use mathlib.Core.Path.{_≡_}
 use mathlib.Core.Bool.{Bool, true}
-use mathlib.Core.List.{List, [], _∷_}
-use Prim.Native.Nat.{ℕ, _≤_, _<_}
+use mathlib.Core.List.{List, [], _∷_, _++_}
+use Prim.Native.Nat.{ℕ, _<_}
 use lib.ListN.{length}
 use Rattle.definitions.specs.Statements.{Stands}
-use Rattle.bitsets.specs.Bits.{has, Inside}
+use Rattle.bitsets.specs.Bits.{has, Sub}
 
 -- no element stands in the list twice
 abbrev pub Once : {A : Type 0} → List A → Type 0
 Once [] = Unit {0}
 Once (x ∷ rest) = (Stands x rest → ⊥) × Once rest
 
--- every two different rows of the set complement each other
-abbrev pub Clique : (ℕ → ℕ → Bool) → ℕ → Type 0
-Clique near set = (j k : ℕ) → has set j ≡ true → has set k ≡ true → (j ≡ k → ⊥) → near j k ≡ true
+module _ (near : ℕ → ℕ → Bool) where
+  -- row j complements each row of the set
+  abbrev pub NearAll : ℕ → ℕ → Type 0
+  NearAll set j = (k : ℕ) → has set k ≡ true → near j k ≡ true
 
--- a set of rows below i that complement each other, all of which no row below i complements
-pub record Max (near : ℕ → ℕ → Bool) (i set : ℕ) : Type 0 where
-  pub inside : Inside set i
-  pub clique : Clique near set
-  pub full : (j : ℕ) → j < i → ((k : ℕ) → has set k ≡ true → near j k ≡ true) → ⊥
+  -- every two different rows of the set complement each other
+  abbrev pub Clique : ℕ → Type 0
+  Clique set = (j k : ℕ) → has set j ≡ true → has set k ≡ true → (j ≡ k → ⊥) → near j k ≡ true
 
--- maximal sets of n rows, none twice: `cap` of them, or all
-pub record Maxima (near : ℕ → ℕ → Bool) (n cap : ℕ) (list : List ℕ) : Type 0 where
-  pub few : length list ≤ cap
-  pub only : (x : ℕ) → Stands x list → Max near n x
-  pub once : Once list
-  pub all : length list < cap → (x : ℕ) → Max near n x → Stands x list
+  -- a set of rows that complement each other, all of which none of the rows complements. Of no rows it is the empty set.
+  pub record Max (rows set : ℕ) : Type 0 where
+    pub inside : Sub set rows
+    pub clique : Clique set
+    pub full : (j : ℕ) → has rows j ≡ true → NearAll set j → ⊥
+
+-- sets with P are put after the old ones, none of them twice: all of them, if the list has fewer than `cap` sets then
+pub record Adds (P : ℕ → Type 0) (cap : ℕ) (old list : List ℕ) : Type 0 where
+  pub new : List ℕ
+  pub adds : list ≡ old ++ new
+  pub only : (x : ℕ) → Stands x new → P x
+  pub once : Once new
+  pub all : length list < cap → (x : ℕ) → P x → Stands x new

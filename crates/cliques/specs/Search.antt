@@ -1,63 +1,113 @@
--- The search for all maximal sets as a function (Tsukiyama, Ide, Ariyoshi, Shirakawa 1977), and the number of its calls.
--- `near j` is the set of the rows that complement row j. No width and no limit stands here.
-use mathlib.Core.Bool.{Bool, true, cond, not, _&&_}
+-- The search for the maximal sets of a part of the rows (Tsukiyama, Ide, Ariyoshi, Shirakawa 1977): when a row may be taken, and what a run
+-- of the search is, with the number of its calls. `N j` is the set of the rows that complement row j. No width and no limit stands here.
+use mathlib.Core.Path.{_≡_}
+use mathlib.Core.Bool.{Bool, true, false}
 use mathlib.Core.List.{List, [], _∷_, _++_}
-use Prim.Native.Nat.{ℕ, zero, suc, _+_, _≤_}
-use lib.Dec.{eqb, leb}
+use Prim.Native.Nat.{ℕ, suc, _≤_, _<_, _+_}
 use lib.ListN.{length, getD}
-use Rattle.bitsets.specs.Bits.{both, isSub, withRow}
+use Rattle.bitsets.specs.Bits.{has, both, isSub, withRow, Inside, Sub, lowest, withoutLowest, sizeBelow}
+use Rattle.cliques.specs.Graph.{near, Graph}
+use Rattle.cliques.specs.Maximal.{NearAll, Max}
 
 -- the rows that complement row j, of the words of a graph
 abbrev pub rowOf : List ℕ → ℕ → ℕ
 rowOf neighbours j = getD neighbours j 0
 
--- The search may go on: `undecided` rows from i on stand in the graph, each with a bit of a word, the list has room for `cap` sets, and no
--- more are found yet.
-pub record Ready (width cap : ℕ) (neighbours : List ℕ) (i undecided : ℕ) (list : List ℕ) (count : ℕ) : Type 0 where
-  pub rows : i + undecided ≤ length neighbours
-  pub bits : i + undecided ≤ width
+-- what a number for each row says
+abbrev pub adjacent : (ℕ → ℕ) → ℕ → ℕ → Bool
+adjacent N j k = has (N j) k
+
+-- n rows fall into decided and undecided ones, `rest`, which are counted
+pub record Split (n decided rest undecided : ℕ) : Type 0 where
+  pub past : Inside decided n
+  pub ahead : Inside rest n
+  pub apart : (k : ℕ) → has rest k ≡ true → has decided k ≡ false
+  pub counted : sizeBelow n rest ≡ undecided
+
+module _ (N : ℕ → ℕ) where
+  -- what row i leaves of a set
+  abbrev pub kept : ℕ → ℕ → ℕ
+  kept set i = both set (N i)
+
+  -- and the row
+  abbrev pub taken : ℕ → ℕ → ℕ
+  taken set i = withRow (kept set i) i
+
+  -- Row i may be taken.
+  pub record MayTake (decided set i : ℕ) : Type 0 where
+    -- what is taken is maximal among the decided rows and row i: no decided row complements what is kept and row i,
+    pub maximal : (j : ℕ) → has decided j ≡ true → NearAll (adjacent N) (kept set i) j → has (N i) j ≡ true → ⊥
+    -- and of the sets that leave the same beside row i it is taken from the first in set order: no row that is not in the set complements
+    -- what is kept and the rows of the set before it
+    pub first : (j : ℕ) → has decided j ≡ true → has set j ≡ false → NearAll (adjacent N) (kept set i) j
+        → ((k : ℕ) → has set k ≡ true → k < j → adjacent N j k ≡ true) → ⊥
+
+  -- A run of the search: so many undecided rows, the decided ones, the undecided ones, a set that is maximal among the decided rows, the list
+  -- before and after, and the number of calls, with the first.
+  pub data Run (cap : ℕ) : ℕ → ℕ → ℕ → ℕ → List ℕ → List ℕ → ℕ → Type 0 where
+    -- the list is full
+    stops : {f d rest set : ℕ} {l : List ℕ} → cap ≤ length l → Run cap f d rest set l l 1
+    -- no row is undecided
+    lists : {d rest set : ℕ} {l : List ℕ} → length l < cap → Run cap 0 d rest set l (l ++ (set ∷ [])) 1
+    -- the first undecided row complements all of the set, and is taken
+    joins : {f d rest set calls : ℕ} {l out : List ℕ} → length l < cap → isSub set (N (lowest rest)) ≡ true
+        → Run cap f (withRow d (lowest rest)) (withoutLowest rest) (withRow set (lowest rest)) l out calls
+        → Run cap (suc f) d rest set l out (suc calls)
+    -- it may not be taken, and is left
+    leaves : {f d rest set calls : ℕ} {l out : List ℕ} → length l < cap → isSub set (N (lowest rest)) ≡ false
+        → (MayTake d set (lowest rest) → ⊥)
+        → Run cap f (withRow d (lowest rest)) (withoutLowest rest) set l out calls
+        → Run cap (suc f) d rest set l out (suc calls)
+    -- it is taken, and then left
+    takes : {f d rest set calls more : ℕ} {l mid out : List ℕ} → length l < cap → isSub set (N (lowest rest)) ≡ false
+        → MayTake d set (lowest rest)
+        → Run cap f (withRow d (lowest rest)) (withoutLowest rest) (taken set (lowest rest)) l mid calls
+        → Run cap f (withRow d (lowest rest)) (withoutLowest rest) set mid out more
+        → Run cap (suc f) d rest set l out (suc (calls + more))
+
+-- a run with some number of calls
+abbrev pub Ran : (ℕ → ℕ) → ℕ → ℕ → ℕ → ℕ → ℕ → List ℕ → List ℕ → Type 0
+Ran N cap undecided decided rest set list out = (calls : ℕ) × Run N cap undecided decided rest set list out calls
+
+-- The search may go on: the words are a graph, each row has a bit of a word, the set is maximal among the decided rows, and the list has
+-- room for `cap` sets, of which no more are found yet.
+pub record Ready (width cap : ℕ) (neighbours : List ℕ) (decided rest undecided set : ℕ) (list : List ℕ) (count : ℕ) : Type 0 where
+  pub graph : Graph neighbours (length neighbours)
+  pub bits : length neighbours ≤ width
+  pub split : Split (length neighbours) decided rest undecided
+  pub maximal : Max (near neighbours) decided set
   pub room : cap ≤ length list
   pub few : count ≤ cap
 
-module _ (near : ℕ → ℕ) where
-  -- the set, with each row below i in ascending order that complements all that are in by then
-  unfoldable pub complete : ℕ → ℕ → ℕ
-  complete set zero = set
-  complete set (suc k) = cond (isSub (complete set k) (near k)) (withRow (complete set k) k) (complete set k)
+-- the same without a list: row i is undecided, and may be taken or not
+pub record Asked (width : ℕ) (neighbours : List ℕ) (decided set i : ℕ) : Type 0 where
+  pub graph : Graph neighbours (length neighbours)
+  pub bits : length neighbours ≤ width
+  pub past : Inside decided (length neighbours)
+  pub maximal : Max (near neighbours) decided set
+  pub row : i < length neighbours
 
-  -- no row below i complements all of the set
-  unfoldable pub isFull : ℕ → ℕ → Bool
-  isFull set zero = true
-  isFull set (suc k) = isFull set k && not (isSub set (near k))
+-- r holds the rows of `start` that complement each row of the set
+pub record Free (near : ℕ → ℕ → Bool) (set start r : ℕ) : Type 0 where
+  pub within : Sub r start
+  pub each : (j k : ℕ) → has set j ≡ true → has r k ≡ true → near j k ≡ true
+  pub all : (k : ℕ) → has start k ≡ true → ((j : ℕ) → has set j ≡ true → near j k ≡ true) → has r k ≡ true
 
-  -- what is left of a set beside row i, and the row
-  unfoldable pub taken : ℕ → ℕ → ℕ
-  taken set i = withRow (both set (near i)) i
+-- a free row that is not in the set
+pub record Met (near : ℕ → ℕ → Bool) (free set : ℕ) : Type 0 where
+  pub row : ℕ
+  pub there : has free row ≡ true
+  pub outside : has set row ≡ false
+  pub before : (k : ℕ) → has free k ≡ true → has set k ≡ true → k < row → near k row ≡ true
 
-  -- what is taken is maximal among the rows up to i, and of the sets that would make the same, this is the one that it is taken from
-  unfoldable pub mayTake : ℕ → ℕ → Bool
-  mayTake set i = isFull (taken set i) i && eqb (complete (both set (near i)) i) set
+-- The free rows are walked in ascending order, and those that a member of the set among them does not complement are passed over. Yes: no row
+-- outside the set is met. No: the row that is met complements each member among the free rows before it.
+pub record GrowsBack (near : ℕ → ℕ → Bool) (free set : ℕ) (r : Bool) : Type 0 where
+  pub yes : r ≡ true → (j : ℕ) → has free j ≡ true → has set j ≡ false
+      → ((k : ℕ) → has free k ≡ true → has set k ≡ true → k < j → near k j ≡ true) → ⊥
+  pub no : r ≡ false → Met near free set
 
-  -- The set is maximal among the rows before i, and `undecided` rows from i on are to be decided: lists the maximal sets that grow out of
-  -- it, as they are found, until the list has `cap` sets. A row that complements all of the set is taken; any other is left, and taken where
-  -- that may be.
-  module _ (cap : ℕ) where
-    unfoldable pub searchSets : ℕ → ℕ → ℕ → List ℕ → List ℕ
-    searchSets zero i set list = cond (leb cap (length list)) list (list ++ (set ∷ []))
-    searchSets (suc undecided) i set list =
-        cond (leb cap (length list)) list
-        (cond (isSub set (near i)) (searchSets undecided (suc i) (withRow set i) list)
-        (cond (mayTake set i)
-        (searchSets undecided (suc i) (taken set i) (searchSets undecided (suc i) set list))
-        (searchSets undecided (suc i) set list)))
-
-    -- how many calls that makes, with the first
-    unfoldable pub searchCalls : ℕ → ℕ → ℕ → List ℕ → ℕ
-    searchCalls zero i set list = 1
-    searchCalls (suc undecided) i set list =
-        cond (leb cap (length list)) 1
-        (cond (isSub set (near i)) (suc (searchCalls undecided (suc i) (withRow set i) list))
-        (cond (mayTake set i)
-        (suc (searchCalls undecided (suc i) set list
-        + searchCalls undecided (suc i) (taken set i) (searchSets undecided (suc i) set list)))
-        (suc (searchCalls undecided (suc i) set list))))
+-- a test says yes where P holds, and no where it does not
+pub record Told (P : Type 0) (r : Bool) : Type 0 where
+  pub yes : r ≡ true → P
+  pub no : r ≡ false → P → ⊥

@@ -1,86 +1,88 @@
-// The search: row by row, from the maximal sets of the rows before it to those with it.
+// The search: row by row, from the maximal sets of the decided rows to those with one row more.
 use crate::ordering::append;
-use crate::sets::has_row;
-use crate::sets::is_sub;
-use crate::sets::meet;
-use crate::sets::with_row;
+use bitsets::has_row;
+use bitsets::is_sub;
+use bitsets::lowest_row;
+use bitsets::meet;
+use bitsets::with_row;
+use bitsets::without_lowest;
 ghost use mathlib.Core.Path.{_≡_};
 ghost use Prim.Native.Nat.{suc, _≤_, _<_};
-ghost use lib.Dec.{eqb};
 ghost use lib.ListN.{length, take};
 ghost use Rattle.definitions.specs.Limits.{maxSets, maxUnionRows};
-ghost use Rattle.cliques.specs.Search.{Ready, rowOf, complete, isFull, taken, mayTake, searchSets};
+ghost use Rattle.bitsets.specs.Bits.{Inside};
+ghost use Rattle.cliques.specs.Graph.{near};
+ghost use Rattle.cliques.specs.Maximal.{Clique};
+ghost use Rattle.cliques.specs.Search.{rowOf, taken, MayTake, Ran, Ready, Asked, Free, GrowsBack, Told};
 
 // As many sets as are listed; one more is found, and ends the search.
 pub(crate) const MAX_SETS: usize = 1024;
 
-// Does no row below i complement all of the set?
-fn is_full(neighbours: &[u64], set: u64, i: usize) -> bool
-    requires { ⌜ i ≤ length (now neighbours) ⌝ }
-    ensures { λ r. ⌜ r ≡ isFull (rowOf (now (neighbours .entry))) set i ⌝ }
+// The rows of `start` that complement each row of the set.
+fn free_rows(neighbours: &[u64], set: u64, start: u64) -> u64
+    requires { ⌜ Inside set (length (now neighbours)) ⌝ }
+    ensures { λ r. ⌜ Free (near (now (neighbours .entry))) set start r ⌝ }
 {
-    let mut k: usize = 0;
-    while k < i {
-        if is_sub(set, neighbours[k]) {
+    let mut rest = set;
+    let mut word = start;
+    while rest != 0 {
+        word = meet(word, neighbours[lowest_row(rest)]);
+        rest = without_lowest(rest);
+    }
+    word
+}
+
+// Is what the free rows give, each taken in ascending order where it complements those before it, of the set alone?
+fn grows_back(neighbours: &[u64], free: u64, set: u64) -> bool
+    requires { ⌜ (length (now neighbours) ≤ maxUnionRows) × Inside free (length (now neighbours)) × Clique (near (now neighbours)) set ⌝ }
+    ensures { λ r. ⌜ GrowsBack (near (now (neighbours .entry))) free set r ⌝ }
+{
+    let mut rest = free;
+    while rest != 0 {
+        let row = lowest_row(rest);
+        if !has_row(set, row) {
             return false;
         }
-        k += 1;
+        rest = meet(without_lowest(rest), neighbours[row]);
     }
     true
 }
 
-// Is the set what its part is completed to, with the rows below i in ascending order? The first row too many ends it.
-fn completes(neighbours: &[u64], part: u64, set: u64, i: usize) -> bool
-    requires { ⌜ (i ≤ length (now neighbours)) × (i ≤ 64) ⌝ }
-    ensures { λ r. ⌜ r ≡ eqb (complete (rowOf (now (neighbours .entry))) part i) set ⌝ }
+// May row i be taken? What that makes has to be maximal, and the set the first of those that it comes from.
+fn may_take(neighbours: &[u64], decided: u64, set: u64, i: usize) -> bool
+    requires { ⌜ Asked maxUnionRows (now neighbours) decided set i ⌝ }
+    ensures { λ r. ⌜ Told (MayTake (rowOf (now (neighbours .entry))) decided set i) r ⌝ }
 {
-    let mut grown = part;
-    let mut k: usize = 0;
-    while k < i {
-        if is_sub(grown, neighbours[k]) {
-            if has_row(set, k) {
-                grown = with_row(grown, k);
-            } else {
-                return false;
-            }
-        }
-        k += 1;
+    let near = neighbours[i];
+    let free = free_rows(neighbours, meet(set, near), decided);
+    if meet(free, near) != 0 {
+        return false;
     }
-    grown == set
+    grows_back(neighbours, free, set)
 }
 
-// What is left of the set beside row i, and the row.
+// What row i leaves of the set, and the row.
 fn take_row(neighbours: &[u64], set: u64, i: usize) -> u64
-    requires { ⌜ (i < length (now neighbours)) × (i < 64) ⌝ }
+    requires { ⌜ (i < length (now neighbours)) × (i < maxUnionRows) ⌝ }
     ensures { λ r. ⌜ r ≡ taken (rowOf (now (neighbours .entry))) set i ⌝ }
 {
     with_row(meet(set, neighbours[i]), i)
 }
 
-// May row i be taken? What that makes has to be maximal, and this set the one that it comes from.
-fn may_take(neighbours: &[u64], set: u64, i: usize) -> bool
-    requires { ⌜ (i < length (now neighbours)) × (i < 64) ⌝ }
-    ensures { λ r. ⌜ r ≡ mayTake (rowOf (now (neighbours .entry))) set i ⌝ }
-{
-    if is_full(neighbours, take_row(neighbours, set, i), i) {
-        completes(neighbours, meet(set, neighbours[i]), set, i)
-    } else {
-        false
-    }
-}
-
-// The set is maximal among the rows before i, and `undecided` rows from i on are to be decided. Lists each maximal set of all these rows
-// that grows out of it, as it finds them, and gives the grown count: it stays from the 1,025th set on.
+// The set is maximal among the decided rows, and `undecided` rows, the rest, are to be decided. Takes the first of them or leaves it, and lists
+// each maximal set of all these rows that grows out of the set, as it finds them. Gives the grown count: it stays from the 1,025th set on.
 pub(crate) fn search(
     neighbours: &[u64],
-    i: usize,
+    decided: u64,
+    rest: u64,
     undecided: usize,
     set: u64,
     list: &mut [u64],
     count: usize,
 ) -> usize
-    requires { ⌜ Ready maxUnionRows (suc maxSets) (now neighbours) i undecided (now list) count ⌝ }
-    ensures { λ r. ⌜ (r ≤ suc maxSets) × (take r (now (list .exit)) ≡ searchSets (rowOf (now (neighbours .entry))) (suc maxSets) undecided i set (take count (now (list .entry)))) ⌝ }
+    requires { ⌜ Ready maxUnionRows (suc maxSets) (now neighbours) decided rest undecided set (now list) count ⌝ }
+    ensures { λ r. ⌜ (r ≤ suc maxSets) × Ran (rowOf (now (neighbours .entry))) (suc maxSets) undecided decided rest set
+        (take count (now (list .entry))) (take r (now (list .exit))) ⌝ }
 {
     if MAX_SETS < count {
         return count;
@@ -88,14 +90,17 @@ pub(crate) fn search(
     if undecided == 0 {
         return append(list, count, set);
     }
+    let i = lowest_row(rest);
+    let later = without_lowest(rest);
+    let known = with_row(decided, i);
     if is_sub(set, neighbours[i]) {
-        let next = with_row(set, i);
-        return search(neighbours, i + 1, undecided - 1, next, list, count);
+        let grown = with_row(set, i);
+        return search(neighbours, known, later, undecided - 1, grown, list, count);
     }
-    let found = search(neighbours, i + 1, undecided - 1, set, list, count);
-    if may_take(neighbours, set, i) {
+    if may_take(neighbours, decided, set, i) {
         let next = take_row(neighbours, set, i);
-        return search(neighbours, i + 1, undecided - 1, next, list, found);
+        let found = search(neighbours, known, later, undecided - 1, next, list, count);
+        return search(neighbours, known, later, undecided - 1, set, list, found);
     }
-    found
+    search(neighbours, known, later, undecided - 1, set, list, count)
 }

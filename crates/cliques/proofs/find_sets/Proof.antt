@@ -1,19 +1,57 @@
--- `find_sets` lists all maximal sets: they are found, and then put in order.
+-- `find_sets` lists all maximal sets: they are found part by part, and then put in order.
+use mathlib.Core.Path.{_≡_, refl, sym}
+use Prim.Native.Nat.{_<_, _≤_}
 use native.Mathlib.Omega.{arith}
+use lib.ListN.{length}
+use lib.Seq.{length-take-le}
 use borrow.Author.Needs.{needs}
-use Rattle.cliques.proofs.Complete.{none-found, many-found, all-found}
+use Rattle.definitions.specs.Limits.{maxUnionRows}
+use Rattle.bitsets.specs.Bits.{rowsBelow}
+use Rattle.cliques.proofs.Complete.{none-found, all-rows, start-rows, many-found, all-found}
 use Rattle.cliques.proofs.find_sets.Statement.{statement}
 use Rattle.cliques.proofs.find_sets.Tie as tie
+
+-- where the rows are a set
+module _ (w : tie.After-with-row) where
+  abbrev start : tie.Start
+  start = w .before .before .before .before .before .before
+
+  some : 0 < start .args .n
+  some = omega (arith, w .before .before .before .if1 .left)
+
+  all : w .with-row .result ≡ rowsBelow (start .args .n)
+  all = all-rows (start .args .n) _ (w .before .below .result) (w .with-row .result) some refl (w .before .below .ensures) (w .with-row .ensures)
+
+-- where their sets are found
+module _ (k : tie.After-list-parts) where
+  abbrev rows : tie.After-with-row
+  rows = k .before .before
+
+  room : k .list-parts .result ≤ length (k .list-parts .last .1 .1 .0)
+  room = omega (arith, start rows .pre .2, k .list-parts .kept .1 .1 .0, k .list-parts .ensures .0)
 
 returns : tie.Need-returns
 returns c =
     let s = c .before .before .before .args in
     none-found (s .neighbours .now) (s .n) (s .list .now) (c .if1 .taken)
 
-list-all-requires : tie.Need-list-all-requires
-list-all-requires c κs =
-    let q = c .before .before .before .before in
-    (q .pre .0, omega (arith, c .before .if1 .left), q .pre .1, search needs)
+sub-last : tie.Need-sub-last
+sub-last c = search needs
+
+slice-aggregate-list-parts : tie.Need-slice-aggregate-list-parts
+slice-aggregate-list-parts c = let q = c .before .before .before .before in sym (length-take-le (q .args .n) (q .args .neighbours .now) (q .pre .0 .rows))
+
+below-requires : tie.Need-below-requires
+below-requires c κs = search needs
+
+with-row-requires : tie.Need-with-row-requires
+with-row-requires c κs = search needs
+
+list-parts-requires : tie.Need-list-parts-requires
+list-parts-requires c κs =
+    let w = c .before in
+    let q = start w in
+    (start-rows (q .args .neighbours .now) (q .args .n) (q .pre .0) maxUnionRows (w .with-row .result) (q .pre .1) (all w), search needs)
 
 same-length : tie.Need-same-length
 same-length c = search needs
@@ -21,13 +59,13 @@ same-length c = search needs
 returns-2 : tie.Need-returns-2
 returns-2 c =
     let k = c .before .before .before in
-    let q = k .before .before .before .before .before in
-    let s = q .args in
-    many-found (s .neighbours .now) (s .n) (q .pre .0) (k .list-all .last .1 .1 .0) (k .list-all .result) (k .before .before .if1 .left)
-    (omega (arith, q .pre .2, k .list-all .kept .1 .1 .0, k .list-all .ensures .0)) (k .list-all .ensures .1) (c .if2 .taken)
+    let w = rows k in
+    let q = start w in
+    many-found (q .args .neighbours .now) (q .args .n) (q .pre .0) (k .list-parts .last .1 .1 .0) (k .list-parts .result) (w .with-row .result) (some w) (room k)
+    (k .list-parts .ensures .0) (all w) (k .list-parts .ensures .1) (c .if2 .taken)
 
 order-sets-requires : tie.Need-order-sets-requires
-order-sets-requires c κs = search needs
+order-sets-requires c κs = let k = c .before .before .before .before in (omega (arith, c .before .if2 .left), room k)
 
 same-length-2 : tie.Need-same-length-2
 same-length-2 c = search needs
@@ -36,19 +74,22 @@ returns-3 : tie.Need-returns-3
 returns-3 c =
     let o = c .before .before in
     let k = o .before .before .before .before .before in
-    let q = k .before .before .before .before .before in
-    let s = q .args in
-    all-found (s .neighbours .now) (s .n) (q .pre .0) (k .list-all .last .1 .1 .0) (k .list-all .result) (k .before .before .if1 .left)
-    (omega (arith, q .pre .2, k .list-all .kept .1 .1 .0, k .list-all .ensures .0)) (k .list-all .ensures .1) (omega (arith, o .before .before .if2 .left))
-    (o .order-sets .last .0) (o .order-sets .result)
-    (omega (arith, q .pre .2, k .list-all .kept .1 .1 .0, k .list-all .ensures .0, o .order-sets .kept .0, o .order-sets .ensures .0)) (o .order-sets .ensures .1)
+    let w = rows k in
+    let q = start w in
+    all-found (q .args .neighbours .now) (q .args .n) (q .pre .0) (k .list-parts .last .1 .1 .0) (k .list-parts .result) (w .with-row .result) (some w) (room k)
+    (k .list-parts .ensures .0) (all w) (k .list-parts .ensures .1) (omega (arith, o .before .before .if2 .left)) (o .order-sets .last .0) (o .order-sets .result)
+    (omega (arith, room k, o .order-sets .kept .0, o .order-sets .ensures .0)) (o .order-sets .ensures .1)
 
 pub find-sets-spec : {M : Type 1} → statement M
 find-sets-spec =
     tie.close
     (tie.spec
     returns
-    list-all-requires
+    sub-last
+    slice-aggregate-list-parts
+    below-requires
+    with-row-requires
+    list-parts-requires
     same-length
     returns-2
     order-sets-requires

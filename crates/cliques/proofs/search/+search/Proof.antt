@@ -1,28 +1,29 @@
--- `search` lists what the function of the same recursion lists: a law for each return. The measure is the count of undecided rows.
-use mathlib.Core.Path.{refl, sym, ap, ap₂, _∙_}
-use mathlib.Core.List.{List}
-use Prim.Native.Nat.{ℕ, suc, _+_, _-_, _<_}
+-- `search` makes a run: a law for each return, and for what each call is asked (Turns). The measure is the count of undecided rows.
+use mathlib.Core.Path.{_≡_, refl, sym, _∙_}
+use Prim.Native.Nat.{ℕ, suc, _-_, _<_}
 use native.Mathlib.Omega.{arith}
-use lib.ListN.{take}
 use borrow.Author.Needs.{needs}
 use borrow.Fn.Kinds.{In}
 use borrow.Fn.PlainCycle.{Measures, is, falls, and}
-use Rattle.definitions.specs.Limits.{maxSets}
-use Rattle.cliques.specs.Search.{rowOf, searchSets}
-use Rattle.cliques.proofs.Steps.{ready-next, search-stops, search-lists, search-joins, search-leaves, search-takes}
+use Rattle.definitions.specs.Limits.{maxSets, maxUnionRows}
+use Rattle.cliques.specs.Search.{rowOf}
+use Rattle.cliques.proofs.Run.{split-some, split-row}
+use Rattle.cliques.proofs.Turns.{Turn, run-stops, run-lists, row-below, row-bit, asked, ready-joins, ready-leaves, ready-takes, run-joins, run-leaves, run-takes}
 use Rattle.cliques.proofs.search.search.Reads as search′
 use Rattle.cliques.proofs.search.search.Kinds as search-kinds
 use Rattle.cliques.proofs.search.+search.Lts-search as lts
+use Rattle.bitsets.proofs.is_sub.Reads as is-sub-reads
+use Rattle.bitsets.proofs.lowest_row.Reads as lowest-row-reads
+use Rattle.bitsets.proofs.with_row.Reads as with-row-reads
+use Rattle.bitsets.proofs.without_lowest.Reads as without-lowest-reads
 use Rattle.cliques.proofs.ordering.append.Reads as append-reads
 use Rattle.cliques.proofs.search.may_take.Reads as may-take-reads
 use Rattle.cliques.proofs.search.take_row.Reads as take-row-reads
-use Rattle.cliques.proofs.sets.is_sub.Reads as is-sub-reads
-use Rattle.cliques.proofs.sets.with_row.Reads as with-row-reads
 use Rattle.cliques.proofs.search.+search.{statement}
 use Rattle.cliques.proofs.search.+search.Tie.{close}
 
 abbrev μ-search : Measures 2 search-kinds.ps ℕ
-μ-search κs a = a .1 .1 .0
+μ-search κs a = a .1 .1 .1 .0
 
 abbrev at : ℕ → In 2 search-kinds.ps
 at t = and 2 search-kinds.ps (is 2 search-kinds.ps μ-search t) search′.Pre
@@ -34,10 +35,14 @@ abbrev claims : ℕ → lts.Claims
 claims t = (
   append-reads.Asked,
   append-reads.Learnt,
-  is-sub-reads.Asked,
-  is-sub-reads.Learnt,
+  lowest-row-reads.Asked,
+  lowest-row-reads.Learnt,
+  without-lowest-reads.Asked,
+  without-lowest-reads.Learnt,
   with-row-reads.Asked,
   with-row-reads.Learnt,
+  is-sub-reads.Asked,
+  is-sub-reads.Learnt,
   below t,
   search′.Post,
   may-take-reads.Asked,
@@ -47,54 +52,98 @@ claims t = (
 )
 
 module _ (t : ℕ) where
+  -- where a row is to be decided
+  module _ (w : lts.After-with-row (claims t) (at t) search′.Post) where
+    abbrev start : lts.Start (claims t) (at t) search′.Post
+    start = w .before .before .before .before .before .before .before
+
+    undecided-left : start .args .undecided ≡ 0 → ⊥
+    undecided-left = w .before .before .before .if2 .left
+
+    turn : Turn maxUnionRows (suc maxSets) (start .args .neighbours .now) (start .args .decided) (start .args .rest) (start .args .undecided)
+        (start .args .set) (start .args .list .now) (start .args .count) (w .before .before .lowest-row .result) (w .before .without-lowest .result)
+        (w .with-row .result)
+    turn = record {
+      ready = start .pre .1;
+      some = undecided-left;
+      few = omega (arith, w .before .before .before .before .if1 .left);
+      row = w .before .before .lowest-row .ensures;
+      rows-later = w .before .without-lowest .ensures;
+      rows-known = w .with-row .ensures;
+    }
+
   returns : lts.Need-returns (claims t) (at t) search′.Post
   returns c =
       let q = c .before .before .before in
       let s = q .args in
-      (search needs, search-stops (rowOf (s .neighbours .now)) (suc maxSets) (s .i) (s .set) (s .count) (s .list .now) (search needs) (s .undecided) (search needs))
+      let r = q .pre .1 in (
+        search needs,
+        run-stops (rowOf (s .neighbours .now)) (suc maxSets) (s .decided) (s .rest) (s .set) (s .count) (s .list .now)
+            (omega (arith, r .room, r .few)) (s .undecided) (omega arith),
+      )
 
   append-requires : lts.Need-append-requires (claims t) (at t) search′.Post
-  append-requires c κs = search needs
+  append-requires c κs =
+      let q = c .before .before .before .before .before in
+      omega (arith, q .pre .1 .room, c .before .before .if1 .left)
 
   same-length : lts.Need-same-length (claims t) (at t) search′.Post
   same-length c = search needs
 
   returns-2 : lts.Need-returns-2 (claims t) (at t) search′.Post
   returns-2 c =
-      let k = c .before .before in
-      let q = k .before .before .before .before .before .before in
-      let s = q .args in (
-        search needs,
-        k .append .ensures .1
-            ∙ search-lists (rowOf (s .neighbours .now)) (suc maxSets) (s .i) (s .set) (s .count) (s .list .now) (omega (arith, q .pre .1 .room, q .pre .1 .few)) (s .undecided)
-            (k .before .before .if2 .taken) (search needs),
+      let a = c .before .before in
+      let o = a .before .before in
+      let q = o .before .before .before .before in
+      let s = q .args in
+      let r = q .pre .1 in
+      let few : s .count < suc maxSets = omega (arith, o .before .if1 .left) in (
+        omega (arith, a .append .ensures .0),
+        run-lists (rowOf (s .neighbours .now)) (suc maxSets) (s .decided) (s .rest) (s .set) (s .count) (s .list .now)
+            (omega (arith, r .room, r .few)) (s .undecided) (o .if2 .taken) few _ (a .append .ensures .1),
       )
 
+  lowest-row-requires : lts.Need-lowest-row-requires (claims t) (at t) search′.Post
+  lowest-row-requires c κs =
+      let q = c .before .before .before .before in
+      split-some (q .pre .1 .split) (c .if2 .left)
+
+  without-lowest-requires : lts.Need-without-lowest-requires (claims t) (at t) search′.Post
+  without-lowest-requires c κs =
+      let q = c .before .before .before .before .before in
+      split-some (q .pre .1 .split) (c .before .if2 .left)
+
+  with-row-requires : lts.Need-with-row-requires (claims t) (at t) search′.Post
+  with-row-requires c κs =
+      let q = c .before .before .before .before .before .before in
+      let l = c .before .lowest-row in
+      omega (arith, split-row (q .pre .1 .split) (c .before .before .if2 .left) (l .result) (l .ensures), q .pre .1 .bits)
+
   mul-is-sub : lts.Need-mul-is-sub (claims t) (at t) search′.Post
-  mul-is-sub c = search needs
+  mul-is-sub c = omega (arith, row-below (turn c))
 
   shared-slice-read-is-sub : lts.Need-shared-slice-read-is-sub (claims t) (at t) search′.Post
-  shared-slice-read-is-sub c = search needs
+  shared-slice-read-is-sub c = row-below (turn (c .before))
 
   is-sub-requires : lts.Need-is-sub-requires (claims t) (at t) search′.Post
   is-sub-requires c κs = search needs
 
-  with-row-requires : lts.Need-with-row-requires (claims t) (at t) search′.Post
-  with-row-requires c κs = search needs
-
-  add-search : lts.Need-add-search (claims t) (at t) search′.Post
-  add-search c = search needs
+  with-row-requires-2 : lts.Need-with-row-requires-2 (claims t) (at t) search′.Post
+  with-row-requires-2 c κs = row-bit (turn (c .before .before .before))
 
   sub-search : lts.Need-sub-search (claims t) (at t) search′.Post
   sub-search c = search needs
 
   search-requires : lts.Need-search-requires (claims t) (at t) search′.Post
   search-requires c κs =
-      let u = c .before .before .before in
-      let q = u .before .before .before .before .before .before in
-      let s = q .args in
-      let some = u .before .before .if2 .left in
-      (omega (arith, q .pre .0), ready-next (q .pre .1) some (s .list .now) (s .count) refl (q .pre .1 .few))
+      let g = c .before in
+      let i = g .before .before in
+      let w = i .before .before in
+      let q = start w in (
+        omega (arith, q .pre .0, (undecided-left w)),
+        ready-joins (turn w) (g .with-row2 .result) (q .args .list .now) (q .args .count) refl (q .pre .1 .few)
+            (sym (i .is-sub .ensures) ∙ g .before .if3 .taken) (g .with-row2 .ensures),
+      )
 
   same-length-2 : lts.Need-same-length-2 (claims t) (at t) search′.Post
   same-length-2 c = search needs
@@ -102,54 +151,47 @@ module _ (t : ℕ) where
   returns-3 : lts.Need-returns-3 (claims t) (at t) search′.Post
   returns-3 c =
       let k = c .before .before in
-      let w = k .before .before in
-      let u = w .before .before in
-      let q = u .before .before .before .before .before .before in
-      let s = q .args in
-      let N = rowOf (s .neighbours .now) in (
-        k .search .ensures .0,
-        k .search .ensures .1
-            ∙ ap (λ (x : ℕ). searchSets N (suc maxSets) (s .undecided - 1) (s .i + 1) x (take (s .count) (s .list .now))) (w .with-row .ensures)
-            ∙ search-joins N (suc maxSets) (s .i) (s .set) (s .count) (s .list .now) (omega (arith, q .pre .1 .room, q .pre .1 .few)) (s .undecided)
-            (u .before .before .if2 .left) (omega (arith, u .before .before .before .if1 .left)) (sym (u .is-sub .ensures) ∙ w .before .if3 .taken),
-      )
+      let g = k .before .before in
+      let i = g .before .before in
+      let w = i .before .before in
+      (k .search .ensures .0, run-joins (turn w) _ (sym (i .is-sub .ensures) ∙ g .before .if3 .taken) (g .with-row2 .result) (g .with-row2 .ensures) (k .search .ensures .1))
 
-  add-search-2 : lts.Need-add-search-2 (claims t) (at t) search′.Post
-  add-search-2 c = search needs
+  may-take-requires : lts.Need-may-take-requires (claims t) (at t) search′.Post
+  may-take-requires c κs = asked (turn (c .before .before .before))
+
+  take-row-requires : lts.Need-take-row-requires (claims t) (at t) search′.Post
+  take-row-requires c κs =
+      let w = c .before .before .before .before .before
+      in (row-below (turn w), row-bit (turn w))
 
   sub-search-2 : lts.Need-sub-search-2 (claims t) (at t) search′.Post
   sub-search-2 c = search needs
 
   search-requires-2 : lts.Need-search-requires-2 (claims t) (at t) search′.Post
   search-requires-2 c κs =
-      let u = c .before .before in
-      let q = u .before .before .before .before .before .before in
-      let s = q .args in
-      let some = u .before .before .if2 .left in
-      (omega (arith, q .pre .0), ready-next (q .pre .1) some (s .list .now) (s .count) refl (q .pre .1 .few))
-
-  may-take-requires : lts.Need-may-take-requires (claims t) (at t) search′.Post
-  may-take-requires c κs = search needs
-
-  take-row-requires : lts.Need-take-row-requires (claims t) (at t) search′.Post
-  take-row-requires c κs = search needs
-
-  add-search-3 : lts.Need-add-search-3 (claims t) (at t) search′.Post
-  add-search-3 c = search needs
+      let g = c .before in
+      let m = g .before .before in
+      let i = m .before .before in
+      let w = i .before .before in
+      let q = start w in (
+        omega (arith, q .pre .0, (undecided-left w)),
+        ready-takes (turn w) (g .take-row .result) (q .args .list .now) (q .args .count) refl (q .pre .1 .few)
+            (sym (i .is-sub .ensures) ∙ m .before .if3 .left) (m .may-take .ensures .yes (g .before .if4 .taken)) (g .take-row .ensures),
+      )
 
   sub-search-3 : lts.Need-sub-search-3 (claims t) (at t) search′.Post
   sub-search-3 c = search needs
 
   search-requires-3 : lts.Need-search-requires-3 (claims t) (at t) search′.Post
   search-requires-3 c κs =
-      let k = c .before .before .before .before .before .before in
-      let u = k .before .before .before in
-      let q = u .before .before .before .before .before .before in
-      let s = q .args in
-      let some = u .before .before .if2 .left in
-      let grown = k .search2 .last .1 .1 .1 .1 .0 in (
-        omega (arith, q .pre .0),
-        ready-next (q .pre .1) some grown (k .search2 .result) (k .search2 .kept .1 .1 .1 .1 .0) (k .search2 .ensures .0),
+      let k = c .before .before .before in
+      let m = k .before .before .before .before in
+      let i = m .before .before in
+      let w = i .before .before in
+      let q = start w in (
+        omega (arith, q .pre .0, (undecided-left w)),
+        ready-leaves (turn w) (q .args .set) (k .search2 .last .1 .1 .1 .1 .1 .0) (k .search2 .result)
+            (k .search2 .kept .1 .1 .1 .1 .1 .0) (k .search2 .ensures .0) (sym (i .is-sub .ensures) ∙ m .before .if3 .left) refl,
       )
 
   same-length-3 : lts.Need-same-length-3 (claims t) (at t) search′.Post
@@ -157,20 +199,29 @@ module _ (t : ℕ) where
 
   returns-4 : lts.Need-returns-4 (claims t) (at t) search′.Post
   returns-4 c =
-      let k = c .before .before in
-      let w = k .before .before in
-      let m = w .before .before in
-      let f = m .before .before .before in
-      let u = f .before .before .before in
-      let q = u .before .before .before .before .before .before in
-      let s = q .args in
-      let N = rowOf (s .neighbours .now) in (
-        k .search3 .ensures .0,
-        k .search3 .ensures .1
-            ∙ ap₂ (λ (x : ℕ) (l : List ℕ). searchSets N (suc maxSets) (s .undecided - 1) (s .i + 1) x l) (w .take-row .ensures) (f .search2 .ensures .1)
-            ∙ search-takes N (suc maxSets) (s .i) (s .set) (s .count) (s .list .now) (omega (arith, q .pre .1 .room, q .pre .1 .few)) (s .undecided)
-            (u .before .before .if2 .left) (omega (arith, u .before .before .before .if1 .left)) (sym (u .is-sub .ensures) ∙ f .before .before .if3 .left)
-            (sym (m .may-take .ensures) ∙ w .before .if4 .taken),
+      let f = c .before .before in
+      let k = f .before .before .before .before in
+      let g = k .before .before in
+      let m = g .before .before in
+      let i = m .before .before in
+      let w = i .before .before in (
+        f .search3 .ensures .0,
+        run-takes (turn w) _ (sym (i .is-sub .ensures) ∙ m .before .if3 .left) (m .may-take .ensures .yes (g .before .if4 .taken))
+            (g .take-row .result) (g .take-row .ensures) _ (k .search2 .ensures .1) (f .search3 .ensures .1),
+      )
+
+  sub-search-4 : lts.Need-sub-search-4 (claims t) (at t) search′.Post
+  sub-search-4 c = search needs
+
+  search-requires-4 : lts.Need-search-requires-4 (claims t) (at t) search′.Post
+  search-requires-4 c κs =
+      let m = c .before .before in
+      let i = m .before .before in
+      let w = i .before .before in
+      let q = start w in (
+        omega (arith, q .pre .0, (undecided-left w)),
+        ready-leaves (turn w) (q .args .set) (q .args .list .now) (q .args .count) refl (q .pre .1 .few)
+            (sym (i .is-sub .ensures) ∙ m .before .if3 .left) refl,
       )
 
   same-length-4 : lts.Need-same-length-4 (claims t) (at t) search′.Post
@@ -178,17 +229,11 @@ module _ (t : ℕ) where
 
   returns-5 : lts.Need-returns-5 (claims t) (at t) search′.Post
   returns-5 c =
-      let m = c .before in
-      let f = m .before .before .before in
-      let u = f .before .before .before in
-      let q = u .before .before .before .before .before .before in
-      let s = q .args in (
-        f .search2 .ensures .0,
-        f .search2 .ensures .1
-            ∙ search-leaves (rowOf (s .neighbours .now)) (suc maxSets) (s .i) (s .set) (s .count) (s .list .now) (omega (arith, q .pre .1 .room, q .pre .1 .few)) (s .undecided)
-            (u .before .before .if2 .left) (omega (arith, u .before .before .before .if1 .left)) (sym (u .is-sub .ensures) ∙ f .before .before .if3 .left)
-            (sym (m .may-take .ensures) ∙ c .if4 .left),
-      )
+      let f = c .before .before in
+      let m = f .before .before .before in
+      let i = m .before .before in
+      let w = i .before .before in
+      (f .search4 .ensures .0, run-leaves (turn w) _ (sym (i .is-sub .ensures) ∙ m .before .if3 .left) (m .may-take .ensures .no (f .before .before .if4 .left)) (f .search4 .ensures .1))
 
 pub +search-spec : {M : Type 1} → statement M
 +search-spec = close μ-search λ t. lts.spec (claims t)
@@ -198,24 +243,26 @@ pub +search-spec : {M : Type 1} → statement M
     (append-requires t)
     (same-length t)
     (returns-2 t)
+    (lowest-row-requires t)
+    (without-lowest-requires t)
+    (with-row-requires t)
     (mul-is-sub t)
     (shared-slice-read-is-sub t)
     (is-sub-requires t)
-    (with-row-requires t)
-    (add-search t)
+    (with-row-requires-2 t)
     (sub-search t)
     (search-requires t)
     (same-length-2 t)
     (returns-3 t)
-    (add-search-2 t)
-    (sub-search-2 t)
-    (search-requires-2 t)
     (may-take-requires t)
     (take-row-requires t)
-    (add-search-3 t)
+    (sub-search-2 t)
+    (search-requires-2 t)
     (sub-search-3 t)
     (search-requires-3 t)
     (same-length-3 t)
     (returns-4 t)
+    (sub-search-4 t)
+    (search-requires-4 t)
     (same-length-4 t)
     (returns-5 t)

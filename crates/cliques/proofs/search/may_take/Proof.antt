@@ -1,50 +1,59 @@
--- `may_take` tells whether the search may take a row: both tests of the definition, the second only where the first holds.
+-- `may_take` tells whether a row may be taken, by the two walks: a law for each return (Taking).
+use native.Mathlib.Omega.{arith}
 use borrow.Author.Needs.{needs}
-use Rattle.cliques.specs.Search.{rowOf}
-use Rattle.cliques.proofs.Steps.{may-yes, may-no}
+use Rattle.cliques.proofs.Taking.{kept-inside, free-inside, told-blocked, told-walked}
 use Rattle.cliques.proofs.search.may_take.Statement.{statement}
 use Rattle.cliques.proofs.search.may_take.Tie as tie
 
-take-row-requires : tie.Need-take-row-requires
-take-row-requires c κs = search needs
+mul-near : tie.Need-mul-near
+mul-near c = search needs
 
-is-full-requires : tie.Need-is-full-requires
-is-full-requires c κs = search needs
-
-mul-meet : tie.Need-mul-meet
-mul-meet c = search needs
-
-shared-slice-read-meet : tie.Need-shared-slice-read-meet
-shared-slice-read-meet c = search needs
+shared-slice-read-near : tie.Need-shared-slice-read-near
+shared-slice-read-near c = search needs
 
 meet-requires : tie.Need-meet-requires
 meet-requires c κs = search needs
 
-completes-requires : tie.Need-completes-requires
-completes-requires c κs = search needs
+free-rows-requires : tie.Need-free-rows-requires
+free-rows-requires c κs = kept-inside (c .before .before .before .pre) (c .meet .result) (c .meet .ensures)
+
+meet-requires-2 : tie.Need-meet-requires-2
+meet-requires-2 c κs = search needs
 
 returns : tie.Need-returns
 returns c =
-    let f = c .before .before .before .before in
-    let s = f .before .before .before .args in
-    may-yes (rowOf (s .neighbours .now)) (s .set) (s .i) (f .before .take-row .result) (f .is-full .result) (f .before .take-row .ensures) (f .is-full .ensures)
-    (c .before .meet .result) (c .completes .result) (c .before .before .before .if1 .taken) (c .before .meet .ensures) (c .completes .ensures)
+    let m = c .before in
+    let f = m .before in
+    let k = f .before in
+    let q = k .before .before .before in
+    told-blocked (q .pre) (f .free-rows .result) (k .meet .result) (k .meet .ensures) (f .free-rows .ensures) (m .meet2 .result) (m .meet2 .ensures)
+    (λ e. c .if1 .taken e)
+
+grows-back-requires : tie.Need-grows-back-requires
+grows-back-requires c κs =
+    let f = c .before .before in
+    let k = f .before in
+    let q = k .before .before .before in
+    (q .pre .bits, free-inside (q .pre) (f .free-rows .result) (k .meet .result) (k .meet .ensures) (f .free-rows .ensures), q .pre .maximal .clique)
 
 returns-2 : tie.Need-returns-2
 returns-2 c =
-    let f = c .before in
-    let s = f .before .before .before .args in
-    may-no (rowOf (s .neighbours .now)) (s .set) (s .i) (f .before .take-row .result) (f .is-full .result) (f .before .take-row .ensures) (f .is-full .ensures) (c .if1 .left)
+    let m = c .before .before in
+    let f = m .before in
+    let k = f .before in
+    let q = k .before .before .before in
+    told-walked (q .pre) (f .free-rows .result) (k .meet .result) (k .meet .ensures) (f .free-rows .ensures) (m .meet2 .result) (m .meet2 .ensures)
+    (omega arith) (c .grows-back .result) (c .grows-back .ensures)
 
 pub may-take-spec : {M : Type 1} → statement M
 may-take-spec =
     tie.close
     (tie.spec
-    take-row-requires
-    is-full-requires
-    mul-meet
-    shared-slice-read-meet
+    mul-near
+    shared-slice-read-near
     meet-requires
-    completes-requires
+    free-rows-requires
+    meet-requires-2
     returns
+    grows-back-requires
     returns-2)

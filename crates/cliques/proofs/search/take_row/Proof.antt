@@ -1,6 +1,8 @@
--- `take_row` makes what the search takes: the definition's intersection, with the row.
+-- `take_row` gives what a row leaves of a set, and the row: the two operations are those of the definition.
+use mathlib.Core.Path.{ap, _∙_}
+use Prim.Native.Nat.{ℕ}
 use borrow.Author.Needs.{needs}
-use Rattle.cliques.specs.Search.{taken}
+use Rattle.bitsets.specs.Bits.{withRow}
 use Rattle.cliques.proofs.search.take_row.Statement.{statement}
 use Rattle.cliques.proofs.search.take_row.Tie as tie
 
@@ -17,9 +19,7 @@ with-row-requires : tie.Need-with-row-requires
 with-row-requires c κs = search needs
 
 returns : tie.Need-returns
-unfolding taken
-returns c = cc
+returns c = c .with-row .ensures ∙ ap (λ (x : ℕ). withRow x (c .before .before .before .before .args .i)) (c .before .meet .ensures)
 
 pub take-row-spec : {M : Type 1} → statement M
-take-row-spec =
-    tie.close (tie.spec mul-meet shared-slice-read-meet meet-requires with-row-requires returns)
+take-row-spec = tie.close (tie.spec mul-meet shared-slice-read-meet meet-requires with-row-requires returns)

@@ -1,0 +1,53 @@
+-- The rows part by part: parts that no row outside complements, the rows of a part that complement all others of it, and what it means to
+-- list the sets of all parts, with the number of the search's calls.
+use mathlib.Core.Path.{_≡_}
+use mathlib.Core.Bool.{Bool, true}
+use mathlib.Core.List.{List, _++_, map}
+use Prim.Native.Nat.{ℕ, _≤_, _<_, _+_}
+use lib.ListN.{length}
+use Rattle.bitsets.specs.Bits.{has, butNot, either, Inside, Sub, sizeBelow}
+use Rattle.cliques.specs.Graph.{Graph}
+use Rattle.cliques.specs.Search.{adjacent, Run}
+
+module _ (near : ℕ → ℕ → Bool) where
+  -- a part of the rows is not empty, and holds each of the rows that complements one of its own
+  pub record Part (rows part : ℕ) : Type 0 where
+    pub within : Sub part rows
+    pub row : ℕ
+    pub there : has part row ≡ true
+    pub closed : (j k : ℕ) → has part j ≡ true → has rows k ≡ true → near j k ≡ true → has part k ≡ true
+
+  -- rows of a part that complement all its other rows
+  pub record Common (part common : ℕ) : Type 0 where
+    pub within : Sub common part
+    pub all : (j k : ℕ) → has common j ≡ true → has part k ≡ true → (j ≡ k → ⊥) → near j k ≡ true
+
+-- The sets of n rows are listed part by part: the search lists those of what a part has beside its common rows, and these are put into each.
+pub data Parts (N : ℕ → ℕ) (cap n : ℕ) : ℕ → List ℕ → List ℕ → ℕ → Type 0 where
+  -- no row is left
+  ends : {rows : ℕ} {l : List ℕ} → rows ≡ 0 → Parts N cap n rows l l 0
+  -- the list is full
+  fills : {rows : ℕ} {l : List ℕ} → cap ≤ length l → Parts N cap n rows l l 0
+  -- a part, and then the rows that are left
+  next : {rows part calls more : ℕ} {l out : List ℕ} (common : ℕ) (new : List ℕ) → length l < cap → Part (adjacent N) rows part → Common (adjacent N) part common
+      → Run N cap (sizeBelow n (butNot part common)) 0 (butNot part common) 0 l (l ++ new) calls
+      → Parts N cap n (butNot rows part) (l ++ map (λ s. either s common) new) out more → Parts N cap n rows l out (calls + more)
+
+-- the sets of the rows are listed, with some number of calls
+abbrev pub Listed : (ℕ → ℕ) → ℕ → ℕ → ℕ → List ℕ → List ℕ → Type 0
+Listed N cap n rows l out = (calls : ℕ) × Parts N cap n rows l out calls
+
+-- rows of a graph in which each row has a bit of a word
+pub record RowsOf (width : ℕ) (neighbours : List ℕ) (rows : ℕ) : Type 0 where
+  pub graph : Graph neighbours (length neighbours)
+  pub bits : length neighbours ≤ width
+  pub inside : Inside rows (length neighbours)
+
+-- the sets of a part of n rows are put after those of the list
+pub record Searched (N : ℕ → ℕ) (cap n part : ℕ) (l out : List ℕ) : Type 0 where
+  pub common : ℕ
+  pub new : List ℕ
+  pub calls : ℕ
+  pub rows : Common (adjacent N) part common
+  pub run : Run N cap (sizeBelow n (butNot part common)) 0 (butNot part common) 0 l (l ++ new) calls
+  pub sets : out ≡ l ++ map (λ s. either s common) new

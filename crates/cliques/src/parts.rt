@@ -1,0 +1,96 @@
+// The rows part by part: a maximal set lies in one connected part of the graph, and holds the rows that complement all others of the part.
+use crate::search::MAX_SETS;
+use crate::search::search;
+use bitsets::is_sub;
+use bitsets::lowest_row;
+use bitsets::meet;
+use bitsets::minus;
+use bitsets::size;
+use bitsets::unite;
+use bitsets::with_row;
+use bitsets::without_lowest;
+ghost use mathlib.Core.Path.{_≡_};
+ghost use mathlib.Core.List.{[], map};
+ghost use Prim.Native.Nat.{suc, _≤_, _<_};
+ghost use lib.ListN.{length, take};
+ghost use Rattle.definitions.specs.Limits.{maxSets, maxUnionRows};
+ghost use Rattle.bitsets.specs.Bits.{Inside, either};
+ghost use Rattle.cliques.specs.Graph.{near, Graph};
+ghost use Rattle.cliques.specs.Search.{rowOf};
+ghost use Rattle.cliques.specs.Parts.{Part, Common, RowsOf, Searched, Listed};
+
+// The connected part of the first of the rows: a row of it is put in, and the rows that complement it are put in later.
+fn part_of(neighbours: &[u64], rows: u64) -> u64
+    requires { ⌜ RowsOf maxUnionRows (now neighbours) rows × (0 < rows) ⌝ }
+    ensures { λ r. ⌜ Part (near (now (neighbours .entry))) rows r ⌝ }
+{
+    let mut part = 0;
+    let mut ahead = with_row(0, lowest_row(rows));
+    while ahead != 0 {
+        let row = lowest_row(ahead);
+        part = with_row(part, row);
+        ahead = minus(meet(unite(ahead, neighbours[row]), rows), part);
+    }
+    part
+}
+
+// The rows of a part that complement all its other rows.
+fn common_rows(neighbours: &[u64], part: u64) -> u64
+    requires { ⌜ RowsOf maxUnionRows (now neighbours) part ⌝ }
+    ensures { λ r. ⌜ Common (near (now (neighbours .entry))) part r ⌝ }
+{
+    let mut common = 0;
+    let mut rest = part;
+    while rest != 0 {
+        let row = lowest_row(rest);
+        rest = without_lowest(rest);
+        if is_sub(part, with_row(neighbours[row], row)) {
+            common = with_row(common, row);
+        }
+    }
+    common
+}
+
+// Puts rows into each set of the list.
+fn add_rows(list: &mut [u64], rows: u64)
+    ensures { λ _. ⌜ now (list .exit) ≡ map (λ s. either s rows) (now (list .entry)) ⌝ }
+{
+    let mut k = 0;
+    while k < list.len() {
+        list[k] = unite(list[k], rows);
+        k += 1;
+    }
+}
+
+// Lists the maximal sets of a part after the first count sets, and gives the grown count. The rows that are in all of them are left out of the
+// search, and put into each set afterwards.
+fn list_part(neighbours: &[u64], part: u64, list: &mut [u64], count: usize) -> usize
+    requires { ⌜ RowsOf maxUnionRows (now neighbours) part × (count ≤ maxSets) × (suc maxSets ≤ length (now list)) ⌝ }
+    ensures { λ r. ⌜ (r ≤ suc maxSets) × Searched (rowOf (now (neighbours .entry))) (suc maxSets) (length (now (neighbours .entry))) part
+        (take count (now (list .entry))) (take r (now (list .exit))) ⌝ }
+{
+    let common = common_rows(neighbours, part);
+    let core = minus(part, common);
+    let found = search(neighbours, 0, core, size(core), 0, list, count);
+    add_rows(&mut list[count..found], common);
+    found
+}
+
+// Lists the maximal sets of the rows as they are found, and gives their number: at most 1,025.
+pub(crate) fn list_parts(neighbours: &[u64], rows: u64, list: &mut [u64]) -> usize
+    requires { ⌜ RowsOf maxUnionRows (now neighbours) rows × (suc maxSets ≤ length (now list)) ⌝ }
+    ensures { λ r. ⌜ (r ≤ suc maxSets) × Listed (rowOf (now (neighbours .entry))) (suc maxSets) (length (now (neighbours .entry))) rows
+        [] (take r (now (list .exit))) ⌝ }
+{
+    let mut rest = rows;
+    let mut count = 0;
+    while rest != 0 {
+        if MAX_SETS < count {
+            return count;
+        }
+        let part = part_of(neighbours, rest);
+        count = list_part(neighbours, part, list, count);
+        rest = minus(rest, part);
+    }
+    count
+}
