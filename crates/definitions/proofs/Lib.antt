@@ -20,4 +20,11 @@ pub mod Images
 pub mod MaximalRows
 pub mod SetWords
 pub mod Demand3
+pub mod Reading
+pub mod Digits
+pub mod Cells
+pub mod Lines
+pub mod TableWords
+pub mod TextLength
 pub mod Paper
+pub mod Example

@@ -11,4 +11,8 @@ pub mod SetList
 pub mod Questions
 pub mod Answer
 pub mod Calls
+pub mod Reading
+pub mod Text
+pub mod Listing
+pub mod Program
 pub mod Statements

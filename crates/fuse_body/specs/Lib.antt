@@ -1,2 +1,3 @@
--- What the contracts of the program's body cite.
-pub mod Reading
+-- What the contracts of the program's text cite.
+pub mod Parts
+pub mod Promise

@@ -1,64 +1,75 @@
 -- Laws of a line that is written field by field: its start, each further field, and its end. Assumes nothing.
-use mathlib.Core.Path.{_≡_, refl, sym, _∙_, ap, subst}
-use mathlib.Core.List.{List, [], _∷_, _++_, append-assoc, map}
+use mathlib.Core.Path.{_≡_, refl, sym, _∙_, ap}
+use mathlib.Core.List.{List, [], _∷_, _++_, map}
 use Prim.Native.Nat.{ℕ, _+_, _≤_, _<_}
 use native.Mathlib.Nat.{not-suc-le-zero}
 use native.Mathlib.Numerals.{add-one}
 use native.Mathlib.Omega.{arith}
-use lib.ListN.{length, getD, take, drop, drop-of-length-le}
+use lib.ListN.{length, getD, drop, length-append, drop-of-length-le}
 use lib.Seq.{drop-cons}
-use Rattle.listing.specs.Text.{line}
-use Rattle.listing.specs.Written.{Written, lineRoom, IsLine}
+use Rattle.definitions.specs.Listing.{line}
+use Rattle.definitions.proofs.Lines.{later, line-first}
+use Rattle.text.specs.Written.{Written}
+use Rattle.text.proofs.Writing.{Writing, starts, rest-as, fits-next, rest-fits, turns, ends-with}
 
--- what follows the first field of a line: the other fields, a space before each, and byte 10
-abbrev pub later : List (List ℕ) → List ℕ
-later [] = 10 ∷ []
-later (f ∷ fields) = 32 ∷ (f ++ later fields)
+module _ (b : List ℕ) (at : ℕ) (f : List ℕ) (fields : List (List ℕ)) (h : at + length (line (f ∷ fields)) ≤ length b) where
+  -- a line has room for its first field
+  pub first-fits : at + length f ≤ length b
+  first-fits = omega (arith, ap length (line-first f fields), length-append f (later fields))
 
-pub line-first : (f : List ℕ) (fields : List (List ℕ)) → line (f ∷ fields) ≡ f ++ later fields
-unfolding line
-line-first f [] = refl
-line-first f (g ∷ fields) = ap (λ (r : List ℕ). f ++ (32 ∷ r)) (line-first g fields)
+  pub line-starts : {a : List ℕ} {end : ℕ} → Written b at f a end → Writing b at (line (f ∷ fields)) (later fields) a end
+  line-starts w = turns (later fields) (rest-as (line-first f fields) (starts b at (line (f ∷ fields)) h)) w
 
--- the first bytes of a buffer, and then the fields that are left, make a whole line
-abbrev pub Left : List ℕ → ℕ → List (List ℕ) → List ℕ → Type 0
-Left buffer at fields whole = take at buffer ++ later fields ≡ whole
+module _ {b m whole : List ℕ} {at mid : ℕ} (f : List ℕ) (fields : List (List ℕ)) (w : Writing b at whole (later (f ∷ fields)) m mid) where
+  -- so has what is left for the next one
+  pub field-fits : mid + 1 + length f ≤ length m
+  field-fits = omega (arith, fits-next (32 ∷ f) (later fields) w)
 
-pub line-starts : {b a f : List ℕ} {at : ℕ} (fields : List (List ℕ)) → Written b 0 f a at → Left a at fields (line (f ∷ fields))
-line-starts {f = f} fields w = ap (λ (t : List ℕ). t ++ later fields) (w .holds) ∙ sym (line-first f fields)
+  pub field-turn : {a : List ℕ} {end : ℕ} → Written m mid (32 ∷ f) a end → Writing b at whole (later fields) a end
+  field-turn q = turns (later fields) w q
 
-pub field-turn : {b a f whole : List ℕ} {at end : ℕ} (fields : List (List ℕ)) → Written b at (32 ∷ f) a end → Left b at (f ∷ fields) whole → Left a end fields whole
-field-turn {b} {f = f} {at = at} fields w e =
-    ap (λ (t : List ℕ). t ++ later fields) (w .holds) ∙ append-assoc (take at b) (32 ∷ f) (later fields) ∙ e
-
-pub line-ends : {b a whole : List ℕ} {at end : ℕ} → at + 1 ≤ lineRoom → Written b at (10 ∷ []) a end → Left b at [] whole → IsLine whole a end
-line-ends h w e = record { within = omega (arith, w .ends); holds = w .holds ∙ e }
+-- and the end of the line has room
+pub end-fits : {b m whole : List ℕ} {at mid : ℕ} → Writing b at whole (later []) m mid → mid + 1 ≤ length m
+end-fits w = omega (arith, rest-fits w)
 
 -- ---- the fields of a list, one by one
 
-module _ (f : ℕ → List ℕ) (l : List ℕ) (i : ℕ) where
-  fields-next : i < length l → map f (drop i l) ≡ f (getD l i 0) ∷ map f (drop (i + 1) l)
-  fields-next h = ap (map f) (drop-cons l i 0 h ∙ ap (λ (k : ℕ). getD l i 0 ∷ drop k l) (sym (add-one i)))
+module _ (f : ℕ → List ℕ) (l : List ℕ) (i : ℕ) {b m whole : List ℕ} {at mid : ℕ}
+    (w : Writing b at whole (later (map f (drop i l))) m mid) where
+  next-field : i < length l → Writing b at whole (later (f (getD l i 0) ∷ map f (drop (i + 1) l))) m mid
+  next-field h =
+      rest-as (ap (λ (x : List ℕ). later (map f x)) (drop-cons l i 0 h ∙ ap (λ (k : ℕ). getD l i 0 ∷ drop k l) (sym (add-one i)))) w
 
-  pub fields-turn : {b a whole : List ℕ} {at end : ℕ} → i < length l → Written b at (32 ∷ f (getD l i 0)) a end
-      → Left b at (map f (drop i l)) whole → Left a end (map f (drop (i + 1) l)) whole
-  fields-turn {b} {whole = whole} {at} h w e =
-      field-turn (map f (drop (i + 1) l)) w (subst (λ (fields : List (List ℕ)). Left b at fields whole) (fields-next h) e)
+  pub fields-fit : i < length l → mid + 1 + length (f (getD l i 0)) ≤ length m
+  fields-fit h = field-fits (f (getD l i 0)) (map f (drop (i + 1) l)) (next-field h)
 
-  pub fields-end : {b a whole : List ℕ} {at end : ℕ} → length l ≤ i → at + 1 ≤ lineRoom → Written b at (10 ∷ []) a end
-      → Left b at (map f (drop i l)) whole → IsLine whole a end
-  fields-end {b} {whole = whole} {at} h k w e =
-      line-ends k w (subst (λ (fields : List (List ℕ)). Left b at fields whole) (ap (map f) (drop-of-length-le l h)) e)
+  pub fields-turn : {a : List ℕ} {end : ℕ} → i < length l → Written m mid (32 ∷ f (getD l i 0)) a end
+      → Writing b at whole (later (map f (drop (i + 1) l))) a end
+  fields-turn h q = field-turn (f (getD l i 0)) (map f (drop (i + 1) l)) (next-field h) q
 
-module _ (f : ℕ → List ℕ) where
-  -- the first field of a list
-  pub fields-start : {b a : List ℕ} {at : ℕ} (l : List ℕ) → 0 < length l → Written b 0 (f (getD l 0 0)) a at
-      → Left a at (map f (drop 1 l)) (line (map f l))
-  fields-start [] h w = absurd (not-suc-le-zero h)
-  fields-start (x ∷ l) h w = line-starts (map f l) w
+  no-field : length l ≤ i → Writing b at whole (later []) m mid
+  no-field h = rest-as (ap (λ (x : List ℕ). later (map f x)) (drop-of-length-le l h)) w
 
+  pub fields-end-fits : length l ≤ i → mid + 1 ≤ length m
+  fields-end-fits h = end-fits (no-field h)
+
+  pub fields-end : {a : List ℕ} {end : ℕ} → length l ≤ i → Written m mid (10 ∷ []) a end → Written b at whole a end
+  fields-end h q = ends-with (no-field h) q
+
+-- ---- a line of a list of fields
+
+module _ (f : ℕ → List ℕ) (b : List ℕ) (at : ℕ) where
   -- a line without fields
-  pub no-fields : {b a : List ℕ} {end : ℕ} (l : List ℕ) → length l ≡ 0 → Written b 0 (10 ∷ []) a end → IsLine (line (map f l)) a end
+  pub no-fields : (l : List ℕ) → length l ≡ 0 → line (map f l) ≡ 10 ∷ []
   unfolding line
-  no-fields [] h w = record { within = omega (arith, w .ends); holds = w .holds }
-  no-fields (x ∷ l) h w = absurd (omega arith)
+  no-fields [] h = refl
+  no-fields (x ∷ l) h = absurd (omega arith)
+
+  pub some-fit : (l : List ℕ) → 0 < length l → at + length (line (map f l)) ≤ length b → at + length (f (getD l 0 0)) ≤ length b
+  some-fit [] h g = absurd (not-suc-le-zero h)
+  some-fit (x ∷ l) h g = first-fits b at (f x) (map f l) g
+
+  pub fields-start : {a : List ℕ} {end : ℕ} (l : List ℕ) → 0 < length l → at + length (line (map f l)) ≤ length b
+      → Written b at (f (getD l 0 0)) a end → Writing b at (line (map f l)) (later (map f (drop 1 l))) a end
+  fields-start [] h g w = absurd (not-suc-le-zero h)
+  fields-start (x ∷ l) h g w = line-starts b at (f x) (map f l) g w

@@ -1,9 +1,4 @@
--- Laws of text that the proofs of this crate cite.
-pub mod Digits
-pub mod Cells
-pub mod Puts
+-- Laws of lines that the proofs of this crate cite.
 pub mod Fields
+pub mod Rows
 pub mod SetLines
-pub mod Records
-pub mod Decoding
-pub mod Example

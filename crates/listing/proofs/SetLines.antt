@@ -1,111 +1,96 @@
--- Laws of a set line: the positions of a mark word bit by bit, those of a record word by word, and the line's end. Assumes nothing.
+-- Laws of a set line: the positions of a record one by one, and the fields behind them. Assumes nothing.
 use mathlib.Core.Path.{_≡_, refl, sym, _∙_, ap}
-use mathlib.Core.List.{List, [], _∷_, _++_, append-assoc, append-nil, map}
-use Prim.Native.Nat.{ℕ, zero, suc, _+_, _*_, _/_, _%_, _^_, _<_}
-use native.Mathlib.Nat.{add-zero, zero-add, div-one}
-use native.Mathlib.Numerals.{add-one, one-add}
+use mathlib.Core.Bool.{Bool}
+use mathlib.Core.List.{List, [], _∷_, _++_, append-assoc, map}
+use Prim.Native.Nat.{ℕ, suc, _+_, _/_, _%_, _^_, _≤_, _<_}
+use native.Mathlib.Numerals.{add-one}
 use native.Mathlib.Omega.{arith}
-use lib.ListN.{length, getD, take}
-use lib.Pow.{shr-shr}
-use lib.Seq.{take-suc, length-take-le}
+use lib.Dec.{eqb}
+use lib.ListN.{length, getD, drop, drop-of-length-le}
 use borrow.Author.Tests.{eq-eqb, ne-eqb}
-use Rattle.listing.specs.Ascii.{ascii}
-use Rattle.listing.specs.Text.{decimal, line, setLine}
-use Rattle.listing.specs.Marks.{positionIf, marksIn, positionsIn, listed}
-use Rattle.listing.specs.Written.{Written}
-use Rattle.listing.proofs.Puts.{none-written, then-written, as-written}
-use Rattle.listing.proofs.Fields.{Left, later, line-first}
+use Rattle.definitions.specs.Limits.{markWords}
+use Rattle.definitions.specs.Reading.{setIn, positionsOf, placeIn}
+use Rattle.definitions.specs.Text.{ascii, decimal}
+use Rattle.definitions.specs.Listing.{line, setLine}
+use Rattle.definitions.proofs.Bools.{bool-cases}
+use Rattle.definitions.proofs.Lines.{later, line-first}
+use Rattle.definitions.proofs.Reading.{marks-length, marks-drop}
+use Rattle.text.specs.Written.{Written}
+use Rattle.text.proofs.Writing.{Writing, starts, rest-as, fits-next, turns, ends, ends-with}
+use Rattle.listing.specs.Lines.{recordLine, listed, markText}
 
-pub listed-append : (ps qs : List ℕ) → listed (ps ++ qs) ≡ listed ps ++ listed qs
-unfolding listed
-listed-append [] qs = refl
-listed-append (p ∷ ps) qs =
-    ap (λ (r : List ℕ). decimal p ++ (32 ∷ r)) (listed-append ps qs) ∙ sym (append-assoc (decimal p) (32 ∷ listed ps) (listed qs))
+-- ---- positions
 
--- ---- a bit
+pub mark-text : (bit p : ℕ) → bit ≡ 1 → markText bit p ≡ decimal p ++ (32 ∷ [])
+mark-text bit p h = rw (eq-eqb bit 1 h)
 
-pub mark-text : (bit position : ℕ) → bit ≡ 1 → listed (positionIf bit position) ≡ decimal position ++ (32 ∷ [])
-unfolding listed
-mark-text bit position h = rw (eq-eqb bit 1 h)
+pub no-mark : (bit p : ℕ) → (bit ≡ 1 → ⊥) → markText bit p ≡ []
+no-mark bit p h = rw (ne-eqb bit 1 h)
 
-pub no-mark : (b : List ℕ) (at bit position : ℕ) → (bit ≡ 1 → ⊥) → Written b at (listed (positionIf bit position)) b at
-unfolding listed
-no-mark b at bit position h = rw (ne-eqb bit 1 h) (none-written b at)
+-- what is left of the positions of a record
+abbrev pub positionsLeft : List ℕ → ℕ → List ℕ
+positionsLeft words p = listed (positionsOf p (drop p (setIn markWords words)))
 
--- ---- a word
+mark-step : (bit p : ℕ) (s : List Bool) → listed (positionsOf p (eqb bit 1 ∷ s)) ≡ markText bit p ++ listed (positionsOf (suc p) s)
+unfolding listed positionsOf
+mark-step bit p s =
+    bool-cases (eqb bit 1)
+    (λ q. rw q (sym (append-assoc (decimal p) (32 ∷ []) (listed (positionsOf (suc p) s)))))
+    (λ q. rw q refl)
 
-marks-last : (n from word : ℕ) → marksIn (suc n) from word ≡ marksIn n from word ++ positionIf (word / 2 ^ n % 2) (from + n)
-unfolding marksIn
-marks-last zero from word = ap (λ (l : List ℕ). l) (append-nil (positionIf (word % 2) from)) ∙ rw (div-one, add-zero)
-marks-last (suc n) from word =
-    let halves : word / 2 / 2 ^ n ≡ word / 2 ^ suc n = shr-shr word 1 n ∙ ap (λ (k : ℕ). word / 2 ^ k) (one-add n) in
-    let next : suc from + n ≡ from + suc n = omega arith in
-    ap (λ (l : List ℕ). positionIf (word % 2) from ++ l)
-    (marks-last n (suc from) (word / 2) ∙ ap (λ (l : List ℕ). marksIn n (suc from) (word / 2) ++ l) (rw (halves, next)))
-    ∙ sym (append-assoc (positionIf (word % 2) from) (marksIn n (suc from) (word / 2)) (positionIf (word / 2 ^ suc n % 2) (from + suc n)))
+module _ (words : List ℕ) (p bit : ℕ) (h : p < 90) (e : bit ≡ getD words (p / 30) 0 / 2 ^ (p % 30) % 2) where
+  next-mark : positionsLeft words p ≡ markText bit p ++ positionsLeft words (p + 1)
+  next-mark =
+      let rest : List Bool = drop (p + 1) (setIn markWords words) in
+      ap (λ (s : List Bool). listed (positionsOf p s)) (marks-drop 90 words p h)
+      ∙ ap (λ (x : ℕ). listed (positionsOf p (eqb x 1 ∷ rest))) (sym e)
+      ∙ mark-step bit p rest
+      ∙ ap (λ (k : ℕ). markText bit p ++ listed (positionsOf k rest)) (sym (add-one p))
 
--- one more bit of a mark word
-pub marks-turn : {b m a : List ℕ} {at mid end : ℕ} (k from word bit : ℕ) → bit ≡ word / 2 ^ k % 2
-    → Written b at (listed (marksIn k from word)) m mid → Written m mid (listed (positionIf bit (from + k))) a end
-    → Written b at (listed (marksIn (k + 1) from word)) a end
-marks-turn k from word bit e p q =
-    as-written
-    (sym (listed-append (marksIn k from word) (positionIf bit (from + k)))
-    ∙ ap listed (rw e (sym (marks-last k from word)) ∙ ap (λ (n : ℕ). marksIn n from word) (sym (add-one k))))
-    (then-written p q)
+  module _ {b m whole : List ℕ} {at mid : ℕ} (w : Writing b at whole (positionsLeft words p) m mid) where
+    pub mark-fits : mid + length (markText bit p) ≤ length m
+    mark-fits = fits-next (markText bit p) (positionsLeft words (p + 1)) (rest-as next-mark w)
 
-pub marks-end : {b a : List ℕ} {at end : ℕ} (k n from word : ℕ) → k ≡ n → Written b at (listed (marksIn k from word)) a end
-    → Written b at (listed (marksIn n from word)) a end
-marks-end k n from word e w = as-written (ap (λ (j : ℕ). listed (marksIn j from word)) e) w
+    pub mark-turn : {a : List ℕ} {end : ℕ} → Written m mid (markText bit p) a end → Writing b at whole (positionsLeft words (p + 1)) a end
+    mark-turn q = turns (positionsLeft words (p + 1)) (rest-as next-mark w) q
 
--- ---- a record
+pub marks-end : {b m whole : List ℕ} {at mid : ℕ} (words : List ℕ) (p : ℕ) → 90 ≤ p → Writing b at whole (positionsLeft words p) m mid
+    → Written b at whole m mid
+unfolding listed positionsOf
+marks-end words p h w =
+    ends (rest-as (ap (λ (s : List Bool). listed (positionsOf p s))
+    (drop-of-length-le (setIn markWords words) {i = p} (omega (arith, marks-length 90 words)))) w)
 
-positions-append : (from : ℕ) (us vs : List ℕ) → positionsIn from (us ++ vs) ≡ positionsIn from us ++ positionsIn (from + 30 * length us) vs
-unfolding positionsIn
-positions-append from [] vs = ap (λ (n : ℕ). positionsIn n vs) (sym (add-zero from))
-positions-append from (u ∷ us) vs =
-    let next : from + 30 + 30 * length us ≡ from + 30 * suc (length us) = omega arith in
-    ap (λ (l : List ℕ). marksIn 30 from u ++ l) (positions-append (from + 30) us vs)
-    ∙ sym (append-assoc (marksIn 30 from u) (positionsIn (from + 30) us) (positionsIn (from + 30 + 30 * length us) vs))
-    ∙ rw next
-
-positions-last : (words : List ℕ) (i : ℕ) → i < length words
-    → positionsIn 0 (take (i + 1) words) ≡ positionsIn 0 (take i words) ++ marksIn 30 (30 * i) (getD words i 0)
-unfolding positionsIn
-positions-last words i h =
-    let size : length (take i words) ≡ i = length-take-le i words (omega arith) in
-    rw (add-one, take-suc words i 0 h, positions-append 0 (take i words) (getD words i 0 ∷ []), size, zero-add, append-nil)
-
--- one more word of a record
-pub record-turn : {b m a : List ℕ} {at mid end : ℕ} (words : List ℕ) (i : ℕ) → i < length words
-    → Written b at (listed (positionsIn 0 (take i words))) m mid → Written m mid (listed (marksIn 30 (30 * i) (getD words i 0))) a end
-    → Written b at (listed (positionsIn 0 (take (i + 1) words))) a end
-record-turn words i h p q =
-    as-written
-    (sym (listed-append (positionsIn 0 (take i words)) (marksIn 30 (30 * i) (getD words i 0))) ∙ ap listed (sym (positions-last words i h)))
-    (then-written p q)
-
-pub record-ends : {b a : List ℕ} {at end : ℕ} (words : List ℕ) (i n : ℕ) → i ≡ n → Written b at (listed (positionsIn 0 (take i words))) a end
-    → Written b at (listed (positionsIn 0 (take n words))) a end
-record-ends words i n e w = as-written (ap (λ (j : ℕ). listed (positionsIn 0 (take j words))) e) w
+-- ---- the line
 
 -- fields with at least one among them, after another field
-later-some : (ps : List ℕ) (f : List ℕ) (fields : List (List ℕ)) → later (map decimal ps ++ (f ∷ fields)) ≡ 32 ∷ line (map decimal ps ++ (f ∷ fields))
+later-some : (ps : List ℕ) (f : List ℕ) (fields : List (List ℕ))
+    → later (map decimal ps ++ (f ∷ fields)) ≡ 32 ∷ line (map decimal ps ++ (f ∷ fields))
 later-some [] f fields = ap (λ (l : List ℕ). 32 ∷ l) (sym (line-first f fields))
 later-some (p ∷ ps) f fields = ap (λ (l : List ℕ). 32 ∷ l) (sym (line-first (decimal p) (map decimal ps ++ (f ∷ fields))))
 
-pub set-text : (ps : List ℕ) (place : ℕ) → setLine ps place ≡ listed ps ++ (62 ∷ later (decimal place ∷ []))
+set-text : (ps : List ℕ) (place : ℕ) → setLine ps place ≡ listed ps ++ (62 ∷ later (decimal place ∷ []))
 unfolding listed
 set-text [] place = line-first (ascii ">") (decimal place ∷ [])
 set-text (p ∷ ps) place =
     line-first (decimal p) (map decimal ps ++ (ascii ">" ∷ decimal place ∷ []))
-    ∙ ap (λ (l : List ℕ). decimal p ++ l) (later-some ps (ascii ">") (decimal place ∷ []) ∙ ap (λ (l : List ℕ). 32 ∷ l) (set-text ps place))
+    ∙ ap (λ (l : List ℕ). decimal p ++ l)
+    (later-some ps (ascii ">") (decimal place ∷ []) ∙ ap (λ (l : List ℕ). 32 ∷ l) (set-text ps place))
     ∙ sym (append-assoc (decimal p) (32 ∷ listed ps) (62 ∷ later (decimal place ∷ [])))
 
--- `>` after the positions
-pub set-starts : {b m a : List ℕ} {mid end : ℕ} (ps : List ℕ) (place : ℕ) → Written b 0 (listed ps) m mid → Written m mid (62 ∷ []) a end
-    → Left a end (decimal place ∷ []) (setLine ps place)
-set-starts ps place p q =
-    ap (λ (l : List ℕ). l ++ later (decimal place ∷ [])) (then-written p q .holds)
-    ∙ append-assoc (listed ps) (62 ∷ []) (later (decimal place ∷ []))
-    ∙ sym (set-text ps place)
+module _ (b : List ℕ) (at : ℕ) (words : List ℕ) (h : at + length (recordLine words) ≤ length b) where
+  abbrev positions : List ℕ
+  positions = listed (positionsOf 0 (setIn markWords words))
+
+  abbrev pub behind : List ℕ
+  behind = later (decimal (placeIn markWords words) ∷ [])
+
+  line-left : Writing b at (recordLine words) (positions ++ (62 ∷ behind)) b at
+  line-left = rest-as (set-text (positionsOf 0 (setIn markWords words)) (placeIn markWords words)) (starts b at (recordLine words) h)
+
+  pub positions-fit : at + length positions ≤ length b
+  positions-fit = fits-next positions (62 ∷ behind) line-left
+
+  -- the positions are written
+  pub set-starts : {a : List ℕ} {end : ℕ} → Written b at positions a end → Writing b at (recordLine words) (62 ∷ behind) a end
+  set-starts w = turns (62 ∷ behind) line-left w

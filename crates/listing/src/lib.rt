@@ -1,17 +1,12 @@
-// The text of the program `fuse` of document 01: words from bytes, and each kind of line.
-mod file;
+// The lines of the program `fuse` of document 01. Each function writes lines into a lent buffer at a place and answers the place behind
+// them; every other byte stays as it was.
 mod lines;
-mod put;
 mod sets;
+mod tables;
 
-pub use file::decode;
-pub use lines::LINE;
-pub use lines::columns_line;
-pub use lines::fused_line;
-pub use lines::minimum_line;
 pub use lines::ragged_line;
 pub use lines::refused_line;
-pub use lines::row_line;
-pub use lines::sets_line;
-pub use lines::union_line;
-pub use sets::set_line;
+pub use sets::sets_lines;
+pub use tables::fused_lines;
+pub use tables::minimum_lines;
+pub use tables::union_lines;

@@ -1,110 +1,82 @@
-// The lines of the program `fuse`. Each is put at the start of a buffer, and its length is the answer.
-use crate::put::next_cell;
-use crate::put::next_number;
-use crate::put::next_word;
-use crate::put::put_byte;
-use crate::put::put_cell;
-use crate::put::put_text;
-ghost use Prim.Native.Nat.{_+_, _*_, _^_, _<_, _≤_};
+// Single lines: fields with a space between them, and byte 10 at the end.
+ghost use Prim.Native.Nat.{_+_, _≤_};
 ghost use mathlib.Core.List.{map};
 ghost use lib.ListN.{length};
 ghost use Rattle.definitions.specs.Word.{idOf};
-ghost use Rattle.listing.specs.Text.{columnsLine, unionTitle, minimumTitle, setsTitle, fusedTitle, titleLine, rowLine, raggedLine, refusedLine};
-ghost use Rattle.listing.specs.Written.{lineRoom, IsLine};
+ghost use Rattle.definitions.specs.Listing.{columnsLine, titleLine, rowLine, raggedLine, refusedLine};
+ghost use Rattle.text.specs.Written.{Written};
+use text::next_cell;
+use text::next_number;
+use text::next_word;
+use text::put_byte;
+use text::put_cell;
+use text::put_text;
 
-// More bytes than any line takes: 31 cells, 90 positions, or a name of 256 bytes.
-pub const LINE: usize = 512;
-
-// A title line: a word and numbers of up to 20 digits.
-fn title_line(line: &mut [u8; LINE], title: &[u8], numbers: &[usize]) -> usize
-    requires { ⌜ length (now title) + 21 * length (now numbers) < lineRoom ⌝ }
-    ensures { λ r. ⌜ IsLine (titleLine (now (title .entry)) (now (numbers .entry))) (now (line .exit)) r ⌝ }
+// A title line: a word and numbers.
+pub(crate) fn title_line(out: &mut [u8], at: usize, title: &[u8], numbers: &[usize]) -> usize
+    requires { ⌜ at + length (titleLine (now title) (now numbers)) ≤ length (now out) ⌝ }
+    ensures { λ r. ⌜ Written (now (out .entry)) at
+        (titleLine (now (title .entry)) (now (numbers .entry))) (now (out .exit)) r ⌝ }
 {
-    let mut at = put_text(line, 0, title);
+    let mut end = put_text(out, at, title);
     let mut i = 0;
     while i < numbers.len() {
-        at = next_number(line, at, numbers[i]);
+        end = next_number(out, end, numbers[i]);
         i += 1;
     }
-    put_byte(line, at, b'\n')
+    put_byte(out, end, b'\n')
 }
 
 // The columns' line: the ids of the column words.
-pub fn columns_line(line: &mut [u8; LINE], columns: &[u32]) -> usize
-    requires { ⌜ length (now columns) < 2 ^ 5 ⌝ }
-    ensures { λ r. ⌜ IsLine (columnsLine (map idOf (now (columns .entry)))) (now (line .exit)) r ⌝ }
+pub(crate) fn columns_line(out: &mut [u8], at: usize, columns: &[u32]) -> usize
+    requires { ⌜ at + length (columnsLine (map idOf (now columns))) ≤ length (now out) ⌝ }
+    ensures { λ r. ⌜ Written (now (out .entry)) at
+        (columnsLine (map idOf (now (columns .entry)))) (now (out .exit)) r ⌝ }
 {
-    let mut at = put_text(line, 0, b"columns");
+    let mut end = put_text(out, at, b"columns");
     let mut i = 0;
     while i < columns.len() {
-        at = next_number(line, at, words::id(columns[i]) as usize);
+        end = next_number(out, end, words::id(columns[i]) as usize);
         i += 1;
     }
-    put_byte(line, at, b'\n')
-}
-
-// The title of T: its rows and filled cells.
-pub fn union_line(line: &mut [u8; LINE], rows: usize, filled: usize) -> usize
-    ensures { λ r. ⌜ IsLine (unionTitle rows filled) (now (line .exit)) r ⌝ }
-{
-    title_line(line, b"union", &[rows, filled])
-}
-
-// The title of the minimum union: its rows, its filled cells and the pairs tried.
-pub fn minimum_line(line: &mut [u8; LINE], rows: usize, filled: usize, pairs: usize) -> usize
-    ensures { λ r. ⌜ IsLine (minimumTitle rows filled pairs) (now (line .exit)) r ⌝ }
-{
-    title_line(line, b"minimum", &[rows, filled, pairs])
-}
-
-// The title of the sets: their number.
-pub fn sets_line(line: &mut [u8; LINE], sets: usize) -> usize
-    ensures { λ r. ⌜ IsLine (setsTitle sets) (now (line .exit)) r ⌝ }
-{
-    title_line(line, b"sets", &[sets])
-}
-
-// The title of the fused table: its rows and filled cells.
-pub fn fused_line(line: &mut [u8; LINE], rows: usize, filled: usize) -> usize
-    ensures { λ r. ⌜ IsLine (fusedTitle rows filled) (now (line .exit)) r ⌝ }
-{
-    title_line(line, b"fused", &[rows, filled])
+    put_byte(out, end, b'\n')
 }
 
 // A row's line: its cells.
-pub fn row_line(line: &mut [u8; LINE], cells: &[u32]) -> usize
-    requires { ⌜ length (now cells) < 2 ^ 5 ⌝ }
-    ensures { λ r. ⌜ IsLine (rowLine (now (cells .entry))) (now (line .exit)) r ⌝ }
+pub(crate) fn row_line(out: &mut [u8], at: usize, cells: &[u32]) -> usize
+    requires { ⌜ at + length (rowLine (now cells)) ≤ length (now out) ⌝ }
+    ensures { λ r. ⌜ Written (now (out .entry)) at (rowLine (now (cells .entry))) (now (out .exit)) r ⌝ }
 {
     if cells.len() == 0 {
-        return put_byte(line, 0, b'\n');
+        return put_byte(out, at, b'\n');
     }
-    let mut at = put_cell(line, 0, cells[0]);
+    let mut end = put_cell(out, at, cells[0]);
     let mut i = 1;
     while i < cells.len() {
-        at = next_cell(line, at, cells[i]);
+        end = next_cell(out, end, cells[i]);
         i += 1;
     }
-    put_byte(line, at, b'\n')
+    put_byte(out, end, b'\n')
 }
 
 // The line of a file whose bytes make no whole number of words.
-pub fn ragged_line(line: &mut [u8; LINE], name: &[u8]) -> usize
-    requires { ⌜ length (now name) ≤ 256 ⌝ }
-    ensures { λ r. ⌜ IsLine (raggedLine (now (name .entry))) (now (line .exit)) r ⌝ }
+pub fn ragged_line(out: &mut [u8], at: usize, name: &[u8]) -> usize
+    requires { ⌜ at + length (raggedLine (now name)) ≤ length (now out) ⌝ }
+    ensures { λ r. ⌜ Written (now (out .entry)) at (raggedLine (now (name .entry))) (now (out .exit)) r ⌝ }
 {
-    let mut at = put_text(line, 0, b"ragged");
-    at = next_word(line, at, name);
-    put_byte(line, at, b'\n')
+    let mut end = put_text(out, at, b"ragged");
+    end = next_word(out, end, name);
+    put_byte(out, end, b'\n')
 }
 
 // The line of a refusal: its number and table.
-pub fn refused_line(line: &mut [u8; LINE], number: u32, table: u32) -> usize
-    ensures { λ r. ⌜ IsLine (refusedLine number table) (now (line .exit)) r ⌝ }
+pub fn refused_line(out: &mut [u8], at: usize, number: u32, table: u32) -> usize
+    requires { ⌜ at + length (refusedLine number table) ≤ length (now out) ⌝ }
+    ensures { λ r. ⌜ Written (now (out .entry)) at (refusedLine number table) (now (out .exit)) r ⌝ }
 {
-    let mut at = put_text(line, 0, b"refused");
-    at = next_number(line, at, number as usize);
-    at = next_word(line, at, b"table");
-    at = next_number(line, at, table as usize);
-    put_byte(line, at, b'\n')
+    let mut end = put_text(out, at, b"refused");
+    end = next_number(out, end, number as usize);
+    end = next_word(out, end, b"table");
+    end = next_number(out, end, table as usize);
+    put_byte(out, end, b'\n')
 }

@@ -1,27 +1,29 @@
-// The line of a set, from its record in the set list.
-use crate::lines::LINE;
-use crate::put::low_bits;
-use crate::put::next_number;
-use crate::put::put_byte;
-use crate::put::put_number;
-ghost use Prim.Native.Nat.{_+_, _≤_, _<_};
+// The lines of the set list.
+ghost use Prim.Native.Nat.{_+_, _*_, _≤_};
 ghost use mathlib.Core.Path.{_≡_};
+ghost use mathlib.Core.List.{_++_};
 ghost use lib.ListN.{length};
-ghost use Rattle.definitions.specs.Limits.{setWidth};
-ghost use Rattle.listing.specs.Marks.{positionIf, marksIn, recordLine, listed};
-ghost use Rattle.listing.specs.Written.{Written, IsLine};
+ghost use Rattle.definitions.specs.Limits.{setWidth, markWords};
+ghost use Rattle.definitions.specs.Reading.{setIn, positionsOf};
+ghost use Rattle.definitions.specs.Listing.{setsTitle};
+ghost use Rattle.text.specs.Written.{Written};
+ghost use Rattle.listing.specs.Lines.{recordLine, recordLines, listed, markText};
+use crate::lines::title_line;
+use text::low_bits;
+use text::next_number;
+use text::put_byte;
+use text::put_number;
 
 // The mark words of a record.
 const MARK_WORDS: usize = 3;
 
-// The positions that a mark word holds.
-const MARKS: usize = 30;
+// The positions that a record's mark words hold.
+const POSITIONS: usize = 90;
 
 // The position and a space where its bit is 1, and nothing where it is 0.
 fn put_mark(out: &mut [u8], at: usize, bit: u32, position: usize) -> usize
-    requires { ⌜ (position < 1000) × (at + 4 ≤ length (now out)) ⌝ }
-    ensures { λ r. ⌜ Written (now (out .entry)) at (listed (positionIf bit position)) (now (out .exit)) r ⌝ }
-    ensures short { λ r. ⌜ r ≤ at + 4 ⌝ }
+    requires { ⌜ at + length (markText bit position) ≤ length (now out) ⌝ }
+    ensures { λ r. ⌜ Written (now (out .entry)) at (markText bit position) (now (out .exit)) r ⌝ }
 {
     if bit != 1 {
         return at;
@@ -30,33 +32,48 @@ fn put_mark(out: &mut [u8], at: usize, bit: u32, position: usize) -> usize
     put_byte(out, end, b' ')
 }
 
-// The positions that a mark word holds, from a position on, with a space after each.
-fn put_marks(out: &mut [u8], at: usize, word: u32, from: usize) -> usize
-    requires { ⌜ (from + 30 ≤ 1000) × (at + 120 ≤ length (now out)) ⌝ }
-    ensures { λ r. ⌜ Written (now (out .entry)) at (listed (marksIn 30 from word)) (now (out .exit)) r ⌝ }
-    ensures short { λ r. ⌜ r ≤ at + 120 ⌝ }
+// The positions that the mark words of a record hold, with a space behind each.
+fn put_positions(out: &mut [u8], at: usize, set: &[u32]) -> usize
+    requires { ⌜ length (now set) ≡ setWidth ⌝ }
+    requires { ⌜ at + length (listed (positionsOf 0 (setIn markWords (now set)))) ≤ length (now out) ⌝ }
+    ensures { λ r. ⌜ Written (now (out .entry)) at
+        (listed (positionsOf 0 (setIn markWords (now (set .entry))))) (now (out .exit)) r ⌝ }
 {
     let mut end = at;
-    let mut k = 0;
-    while k < MARKS {
-        end = put_mark(out, end, (word >> k) & 1, from + k);
-        k += 1;
+    let mut p = 0;
+    while p < POSITIONS {
+        end = put_mark(out, end, (set[p / 30] >> (p % 30)) & 1, p);
+        p += 1;
     }
     end
 }
 
 // The positions of a set, `>` and the place of its joined row.
-pub fn set_line(line: &mut [u8; LINE], set: &[u32]) -> usize
-    requires { ⌜ length (now set) ≡ setWidth ⌝ }
-    ensures { λ r. ⌜ IsLine (recordLine (now (set .entry))) (now (line .exit)) r ⌝ }
+fn set_line(out: &mut [u8], at: usize, set: &[u32]) -> usize
+    requires { ⌜ (length (now set) ≡ setWidth) × (at + length (recordLine (now set)) ≤ length (now out)) ⌝ }
+    ensures { λ r. ⌜ Written (now (out .entry)) at (recordLine (now (set .entry))) (now (out .exit)) r ⌝ }
 {
-    let mut at = 0;
+    let mut end = put_positions(out, at, set);
+    end = put_byte(out, end, b'>');
+    end = next_number(out, end, low_bits(set[MARK_WORDS]) as usize);
+    put_byte(out, end, b'\n')
+}
+
+// The title of the sets and a line for each record of a set list.
+pub fn sets_lines(out: &mut [u8], at: usize, list: &[u32], count: usize) -> usize
+    requires { ⌜ 1 + count * setWidth ≤ length (now list) ⌝ }
+    requires { ⌜ at + length (setsTitle count ++ recordLines (now list) count) ≤ length (now out) ⌝ }
+    ensures { λ r. ⌜ Written (now (out .entry)) at
+        (setsTitle count ++ recordLines (now (list .entry)) count) (now (out .exit)) r ⌝ }
+{
+    let mut end = title_line(out, at, b"sets", &[count]);
+    let mut start = 1;
     let mut i = 0;
-    while i < MARK_WORDS {
-        at = put_marks(line, at, set[i], MARKS * i);
+    while i < count {
+        let stop = start + 4;
+        end = set_line(out, end, &list[start..stop]);
+        start = stop;
         i += 1;
     }
-    at = put_byte(line, at, b'>');
-    at = next_number(line, at, low_bits(set[MARK_WORDS]) as usize);
-    put_byte(line, at, b'\n')
+    end
 }

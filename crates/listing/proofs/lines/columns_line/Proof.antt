@@ -1,15 +1,15 @@
 -- `columns_line` meets its contract: what is written so far and the ids that are left are the line.
-use Prim.Native.Nat.{ℕ, _+_, _*_, _-_, _≤_}
-use mathlib.Core.Path.{_≡_, sym, _∙_, ap}
+use Prim.Native.Nat.{ℕ, _+_, _-_, _≤_}
+use mathlib.Core.Path.{_≡_, sym, ap, subst}
 use mathlib.Core.List.{List, _∷_, map, map-map}
 use native.Mathlib.Omega.{arith}
-use lib.ListN.{length, getD, drop}
+use lib.ListN.{length, drop}
 use Rattle.definitions.specs.Word.{idOf}
-use Rattle.listing.specs.Ascii.{ascii}
-use Rattle.listing.specs.Text.{decimal, line, columnsLine}
-use Rattle.listing.proofs.Digits.{decimal-length}
-use Rattle.listing.proofs.Puts.{as-written}
-use Rattle.listing.proofs.Fields.{Left, line-starts, fields-turn, fields-end}
+use Rattle.definitions.specs.Text.{ascii, decimal}
+use Rattle.definitions.specs.Listing.{line, columnsLine}
+use Rattle.definitions.proofs.Lines.{later}
+use Rattle.text.proofs.Writing.{as-written, Writing, same-room, starts, rest-as, rest-fits, ends-with}
+use Rattle.listing.proofs.Fields.{first-fits, line-starts, fields-fit, fields-turn, fields-end-fits, fields-end}
 use borrow.Author.Needs.{needs}
 use Rattle.listing.proofs.lines.columns_line.Statement.{statement}
 use Rattle.listing.proofs.lines.columns_line.Tie as tie
@@ -17,32 +17,33 @@ use Rattle.listing.proofs.lines.columns_line.Tie as tie
 abbrev idText : ℕ → List ℕ
 idText w = decimal (idOf w)
 
--- an id has at most five digits
-id-length : (w : ℕ) {id : ℕ} → id ≡ idOf w → length (decimal id) ≤ 5
-id-length w {id} e = decimal-length 4 id (omega (arith, e))
-
-ids-line : (columns : List ℕ) → line (ascii "columns" ∷ map idText columns) ≡ columnsLine (map idOf columns)
-ids-line columns = sym (ap (λ (fields : List (List ℕ)). line (ascii "columns" ∷ fields)) (map-map decimal idOf columns))
-
 abbrev Inv-loop : tie.InvT-loop
-Inv-loop line₀ columns at₀ i₀ line at i =
-    (i ≤ length columns) × (at ≤ 7 + 6 * i) × Left line at (map idText (drop i columns)) (columnsLine (map idOf columns))
+Inv-loop out₀ at columns end₀ i₀ out end i =
+    (i ≤ length columns) × Writing out₀ end₀ (later (map idText columns))
+    (later (map idText (drop i columns))) out end
 
 abbrev μ-loop : tie.MeasureT-loop
-μ-loop line₀ columns at₀ i₀ line at i = length columns - i
+μ-loop out₀ at columns end₀ i₀ out end i = length columns - i
 
 slice-aggregate-put-text : tie.Need-slice-aggregate-put-text Inv-loop μ-loop
 slice-aggregate-put-text c = search needs
 
 put-text-requires : tie.Need-put-text-requires Inv-loop μ-loop
-put-text-requires c κs = omega arith
+put-text-requires c κs =
+    let s = c .before .before .before .before in
+    first-fits (s .args .out .now) (s .args .at) (ascii "columns") (map decimal (map idOf (s .args .columns .now)))
+    (s .pre)
 
 loop-holds : tie.Need-loop-holds Inv-loop μ-loop
 loop-holds c =
-    let s = c .before .before .before .before .args in (
-      omega arith,
-      omega (arith, c .put-text .ensures .ends),
-      line-starts (map idText (s .columns .now)) (c .put-text .ensures) ∙ ids-line (s .columns .now),
+    let at-put-text = c .before .before in
+    let s = at-put-text .before .before .before .before .before in
+    let columns = s .args .columns .now in (
+      search needs,
+      starts _ _ _ (rest-fits
+          (rest-as (ap later (map-map decimal idOf columns))
+          (line-starts (s .args .out .now) (s .args .at) (ascii "columns") (map decimal (map idOf columns)) (s .pre)
+          (at-put-text .put-text .ensures)))),
     )
 
 mul-id : tie.Need-mul-id Inv-loop μ-loop
@@ -60,7 +61,8 @@ cast-next-number c = search needs
 next-number-requires : tie.Need-next-number-requires Inv-loop μ-loop
 next-number-requires c κs =
     let turned = c .before .before .before .before in
-    omega (arith, id-length (getD (turned .before .before .before .before .before .args .columns .now) (turned .loop .i) 0) (c .id .ensures))
+    let short = fields-fit idText _ (turned .loop .i) (turned .loop .inv .1) (omega arith) in
+    omega (arith, short, ap (λ (n : ℕ). length (decimal n)) (c .id .ensures))
 
 add-i : tie.Need-add-i Inv-loop μ-loop
 add-i c = search needs
@@ -70,22 +72,37 @@ loop-less c = search needs
 
 loop-again : tie.Need-loop-again Inv-loop μ-loop
 loop-again c =
-    let turned = c .before .before .before .before .before in
-    let columns = turned .before .before .before .before .before .args .columns .now in (
+    let at-next-number = c .before .before in
+    let at-id = at-next-number .before in
+    let turned = at-id .before .before .before .before in
+    let same = ap (λ (n : ℕ). 32 ∷ decimal n) (at-id .id .ensures) in (
       omega arith,
-      omega (arith, id-length (getD columns (turned .loop .i) 0) (c .before .id .ensures)),
-      fields-turn idText columns (turned .loop .i) (omega arith)
-          (as-written (ap (λ (n : ℕ). 32 ∷ decimal n) (c .before .id .ensures)) (c .next-number .ensures)) (turned .loop .inv .2),
+      fields-turn idText _ (turned .loop .i) (turned .loop .inv .1) (omega arith)
+          (as-written same (at-next-number .next-number .ensures)),
     )
 
 put-byte-requires : tie.Need-put-byte-requires Inv-loop μ-loop
-put-byte-requires c κs = omega arith
+put-byte-requires c κs =
+    let turned = c .before .before in
+    fields-end-fits idText _ (turned .loop .i) (turned .loop .inv .1) (omega arith)
+
+same-length : tie.Need-same-length Inv-loop μ-loop
+same-length c =
+    let turned = c .before .before .before .before .before in
+    omega (arith, same-room (turned .loop .inv .1))
 
 returns : tie.Need-returns Inv-loop μ-loop
 returns c =
-    let turned = c .before .before .before in
-    let s = turned .before .before .before .before .before .args in
-    fields-end idText (s .columns .now) (turned .loop .i) (omega arith) (omega arith) (c .put-byte .ensures) (turned .loop .inv .2)
+    let at-put-byte = c .before .before in
+    let turned = at-put-byte .before .before .before in
+    let at-put-text = turned .before .before .before in
+    let s = at-put-text .before .before .before .before .before in
+    let columns = s .args .columns .now in
+    ends-with
+    (rest-as (ap later (map-map decimal idOf columns))
+    (line-starts (s .args .out .now) (s .args .at) (ascii "columns") (map decimal (map idOf columns)) (s .pre)
+    (at-put-text .put-text .ensures)))
+    (fields-end idText _ (turned .loop .i) (turned .loop .inv .1) (omega arith) (at-put-byte .put-byte .ensures))
 
 pub columns-line-spec : {M : Type 1} → statement M
 columns-line-spec =
@@ -105,4 +122,5 @@ columns-line-spec =
     loop-less
     loop-again
     put-byte-requires
+    same-length
     returns)

@@ -1,0 +1,79 @@
+// The parts of the listing, each from the answer and the words of a call.
+ghost use Prim.Native.Nat.{_+_, _≤_};
+ghost use mathlib.Core.Path.{_≡_};
+ghost use lib.ListN.{length};
+ghost use Rattle.definitions.specs.Program.{lentTable, unionText, minimumText, listing};
+ghost use Rattle.text.specs.Written.{Written};
+ghost use Rattle.fuse_body.specs.Parts.{IsDone, FusedWords};
+use definitions::MinimumAnswer;
+use definitions::OuterAnswer;
+use listing::fused_lines;
+use listing::minimum_lines;
+use listing::sets_lines;
+use listing::union_lines;
+
+// The columns and T. Where complement union isn't refused, outer union isn't: the first arm is never taken.
+fn put_union(a: &[u32], b: &[u32], table: &mut [u32], out: &mut [u8], at: usize) -> usize
+    requires { ⌜ IsDone (now a) (now b) × (length (now table) ≡ lentTable) ⌝ }
+    requires { ⌜ at + length (unionText (now a) (now b)) ≤ length (now out) ⌝ }
+    ensures { λ r. ⌜ Written (now (out .entry)) at
+        (unionText (now (a .entry)) (now (b .entry))) (now (out .exit)) r ⌝ }
+{
+    let answer = unions::outer_union(a, b, table);
+    match answer {
+        OuterAnswer::Refused {
+            number: _,
+            table: _,
+        } => at,
+        OuterAnswer::Done {
+            rows,
+            words: _,
+            filled,
+        } => union_lines(out, at, table, rows, filled),
+    }
+}
+
+// The minimum union. Where complement union isn't refused, minimum union isn't: the first arm is never taken.
+fn put_minimum(a: &[u32], b: &[u32], table: &mut [u32], out: &mut [u8], at: usize) -> usize
+    requires { ⌜ IsDone (now a) (now b) × (length (now table) ≡ lentTable) ⌝ }
+    requires { ⌜ at + length (minimumText (now a) (now b)) ≤ length (now out) ⌝ }
+    ensures { λ r. ⌜ Written (now (out .entry)) at
+        (minimumText (now (a .entry)) (now (b .entry))) (now (out .exit)) r ⌝ }
+{
+    let answer = unions::minimum_union(a, b, table);
+    match answer {
+        MinimumAnswer::Refused {
+            number: _,
+            table: _,
+        } => at,
+        MinimumAnswer::Done {
+            rows,
+            words: _,
+            filled,
+            pairs,
+        } => minimum_lines(out, at, table, rows, filled, pairs),
+    }
+}
+
+// The whole listing, where complement union left these words.
+pub(crate) fn put_listing(
+    a: &[u32],
+    b: &[u32],
+    fused: &[u32],
+    rows: usize,
+    filled: usize,
+    sets: &[u32],
+    count: usize,
+    table: &mut [u32],
+    out: &mut [u8],
+) -> usize
+    requires { ⌜ FusedWords (now a) (now b) (now fused) rows filled (now sets) count ⌝ }
+    requires { ⌜ (length (now table) ≡ lentTable) × (length (listing (now a) (now b)) ≤ length (now out)) ⌝ }
+    ensures { λ r. ⌜ Written (now (out .entry)) 0
+        (listing (now (a .entry)) (now (b .entry))) (now (out .exit)) r ⌝ }
+{
+    let mut end = put_union(a, b, table, out, 0);
+    end = put_minimum(a, b, table, out, end);
+    end = sets_lines(out, end, sets, count);
+    fused_lines(out, end, fused, rows, filled)
+}

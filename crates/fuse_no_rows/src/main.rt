@@ -1,4 +1,0 @@
-// `fuse` on other data: two tables without rows.
-fn main() {
-    fuse_body::run();
-}

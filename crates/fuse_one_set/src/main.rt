@@ -1,4 +1,0 @@
-// `fuse` on other data: 64 rows that all complement each other.
-fn main() {
-    fuse_body::run();
-}

@@ -1,4 +1,0 @@
-// `fuse` on other data: both files are ragged.
-fn main() {
-    fuse_body::run();
-}

@@ -1,4 +1,0 @@
-// `fuse` on other data: 33 rows.
-fn main() {
-    fuse_body::run();
-}

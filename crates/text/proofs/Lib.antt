@@ -1,0 +1,2 @@
+-- Laws of text written into a buffer, for every crate that writes some.
+pub mod Writing

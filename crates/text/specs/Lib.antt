@@ -1,0 +1,2 @@
+-- What the functions that write text promise.
+pub mod Written
