@@ -18,9 +18,17 @@ pub enum Shape {
     // Of each of 32 devices the board's row, then of each the plant's. The board's rows complement each other and the plant's rows of
     // other devices; the plant's rows are told apart by their first column, and each subsumes the board's row of its device.
     Devices,
-    // Rows do unless their bits together leave a rest of 1, or of 5, in the division by 11: the quick search takes too many steps.
+    // Rows do unless their bits together leave a rest of 1, or of 5, in the division by 11.
     RestOne,
     RestFive,
+    // Rows of different groups of four do, and the rows from 20 on complement all others.
+    CommonLast,
+    // The same with the rows below 44, and groups of four behind them.
+    CommonFirst,
+    // A row below 32 and one from 32 on do.
+    TwoGroups,
+    // Rows that follow each other in a part of four rows do.
+    Parts,
 }
 
 // Do two different rows complement each other?
@@ -39,6 +47,22 @@ fn beside(shape: Shape, j: usize, k: usize) -> bool {
         Shape::Devices => devices(j, k),
         Shape::RestOne => (j | k) % 11 != 1,
         Shape::RestFive => (j | k) % 11 != 5,
+        Shape::CommonLast => if j < 20 {
+            if k < 20 { j / 4 != k / 4 } else { true }
+        } else {
+            true
+        },
+        Shape::CommonFirst => if j < 44 {
+            true
+        } else {
+            if k < 44 { true } else { j / 4 != k / 4 }
+        },
+        Shape::TwoGroups => (j < 32) != (k < 32),
+        Shape::Parts => if j / 4 == k / 4 {
+            if j < k { k - j == 1 } else { j - k == 1 }
+        } else {
+            false
+        },
     }
 }
 

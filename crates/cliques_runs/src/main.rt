@@ -39,4 +39,9 @@ fn main() {
     show(b"64 rows of 32 devices: ", Shape::Devices, 64);
     show(b"64 rows, rest 1: ", Shape::RestOne, 64);
     show(b"64 rows, rest 5: ", Shape::RestFive, 64);
+    show(b"64 rows, 44 common last: ", Shape::CommonLast, 64);
+    show(b"64 rows, 44 common first: ", Shape::CommonFirst, 64);
+    show(b"64 rows in two groups: ", Shape::TwoGroups, 64);
+    show(b"64 rows in parts of four: ", Shape::Parts, 64);
+    show(b"5 rows in parts of four: ", Shape::Parts, 5);
 }
