@@ -4,7 +4,7 @@ ghost use lib.ListN.{getD};
 ghost use Rattle.fusion_c.specs.CInterface.{putOver, refusalWords};
 
 // Puts the words as far as they fit; the first of them, the number.
-pub fn put_words(answer: &mut [u32], words: &[u32; 8]) -> u32
+pub(crate) fn put_words(answer: &mut [u32], words: &[u32; 8]) -> u32
     ensures number { λ r. ⌜ r ≡ getD (now (words .entry)) 0 0 ⌝ }
     ensures puts { λ r. ⌜ now (answer .exit) ≡ putOver (now (words .entry)) (now (answer .entry)) ⌝ }
 {
@@ -18,7 +18,7 @@ pub fn put_words(answer: &mut [u32], words: &[u32; 8]) -> u32
 }
 
 // Puts the words of a refusal as far as they fit; its number.
-pub fn put_refusal(answer: &mut [u32], number: u32, table: u32) -> u32
+pub(crate) fn put_refusal(answer: &mut [u32], number: u32, table: u32) -> u32
     ensures number { λ r. ⌜ r ≡ number ⌝ }
     ensures puts { λ r. ⌜ now (answer .exit) ≡ putOver (refusalWords number table) (now (answer .entry)) ⌝ }
 {

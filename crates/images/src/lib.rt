@@ -8,7 +8,7 @@ ghost use Rattle.definitions.specs.Image.{isHeader, isColumn};
 ghost use Rattle.definitions.specs.Questions.{imageNumber};
 
 // Whether a word is a header.
-pub fn is_header(w: u32) -> bool
+fn is_header(w: u32) -> bool
     ensures { λ r. ⌜ r ≡ isHeader w ⌝ }
 {
     if words::kind(w) == 3 {
@@ -18,7 +18,7 @@ pub fn is_header(w: u32) -> bool
 }
 
 // Whether a word may stand for a column.
-pub fn is_column(w: u32) -> bool
+fn is_column(w: u32) -> bool
     ensures { λ r. ⌜ r ≡ isColumn w ⌝ }
 {
     if words::kind(w) == 2 {
@@ -28,7 +28,7 @@ pub fn is_column(w: u32) -> bool
 }
 
 // Whether every word may stand for a column.
-pub fn all_columns(w: &[u32]) -> bool
+fn all_columns(w: &[u32]) -> bool
     ensures { λ r. ⌜ r ≡ all isColumn (now (w .entry)) ⌝ }
 {
     let mut fit = true;
@@ -41,7 +41,7 @@ pub fn all_columns(w: &[u32]) -> bool
 }
 
 // Whether every word may stand as a cell. Every word is looked at: several at a time are quicker than to stop at the first wrong one.
-pub fn all_cells(w: &[u32]) -> bool
+fn all_cells(w: &[u32]) -> bool
     ensures { λ r. ⌜ r ≡ all isCell (now (w .entry)) ⌝ }
 {
     let mut fit = true;
@@ -54,7 +54,7 @@ pub fn all_cells(w: &[u32]) -> bool
 }
 
 // Whether a column word of the list has the id.
-pub fn has_id(w: &[u32], id: u32) -> bool
+fn has_id(w: &[u32], id: u32) -> bool
     ensures { λ r. ⌜ r ≡ any (eqb id) (map idOf (now (w .entry))) ⌝ }
 {
     let mut found = false;
@@ -67,7 +67,7 @@ pub fn has_id(w: &[u32], id: u32) -> bool
 }
 
 // Whether no two column words have the same id.
-pub fn distinct_ids(w: &[u32]) -> bool
+fn distinct_ids(w: &[u32]) -> bool
     ensures { λ r. ⌜ r ≡ distinct eqb (map idOf (now (w .entry))) ⌝ }
 {
     let mut i = 0;

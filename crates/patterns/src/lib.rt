@@ -15,7 +15,7 @@ mod ones;
 
 pub use columns::blank;
 pub use columns::fill_columns;
-pub use ones::count_ones;
+use ones::count_ones;
 
 // 1 for a filled cell, 0 for the empty cell.
 pub(crate) fn bit(cell: u32) -> u32
@@ -25,7 +25,7 @@ pub(crate) fn bit(cell: u32) -> u32
 }
 
 // The filled pattern of a row.
-pub fn pattern(row: &[u32]) -> u32
+fn pattern(row: &[u32]) -> u32
     requires { ⌜ length (now row) ≤ maxColumns ⌝ }
     ensures { λ r. ⌜ (r ≡ patternOf (now (row .entry))) × (r < 2 ^ maxColumns) ⌝ }
 {

@@ -263,7 +263,7 @@ const ONES: [u8; 256] = [
 ];
 
 // The ones of a word, byte by byte.
-pub fn count_ones(p: u32) -> u32
+pub(crate) fn count_ones(p: u32) -> u32
     ensures { λ r. ⌜ r ≡ ones p ⌝ }
 {
     let table = ONES;

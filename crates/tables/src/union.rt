@@ -25,7 +25,7 @@ pub fn widen_both(a: &[u32], b: &[u32], all: &[u32], cells: &mut [u32; Table::MA
 }
 
 // Writes the distinct rows among the first n, ascending; how many they are.
-pub fn order_cells(wide: &[u32], width: usize, n: usize, cells: &mut [u32]) -> usize
+fn order_cells(wide: &[u32], width: usize, n: usize, cells: &mut [u32]) -> usize
     requires { ⌜ (width ≤ maxColumns) × (n ≤ maxUnionRows) × (n * width ≤ length (now wide))
         × (maxUnionRows * maxColumns ≤ length (now cells)) ⌝ }
     ensures { λ r. ⌜ (rowsIn width r (now (cells .exit)) ≡ ascending compareRow (rowsIn width n (now (wide .entry))))

@@ -18,7 +18,7 @@ use crate::Table;
 use crate::columns::smaller;
 
 // Where each column word's id stands among the union's ids, once these are in order.
-pub fn column_places(columns: &[u32], union: &[u32], places: &mut [usize])
+fn column_places(columns: &[u32], union: &[u32], places: &mut [usize])
     requires { ⌜ (length (now columns) ≤ length (now places)) × (length (now union) ≤ maxIds) ⌝ }
     ensures { λ r. ⌜ now (places .exit) ≡ paste (now (places .entry)) 0
         (placesIn (now (union .entry)) (map idOf (now (columns .entry)))) (length (now (columns .entry))) ⌝ }
@@ -31,7 +31,7 @@ pub fn column_places(columns: &[u32], union: &[u32], places: &mut [usize])
 }
 
 // Writes each cell of a row at its place from at.
-pub fn widen_row(row: &[u32], places: &[usize], cells: &mut [u32], at: usize)
+fn widen_row(row: &[u32], places: &[usize], cells: &mut [u32], at: usize)
     requires { ⌜ (length (now row) ≤ length (now places))
         × ((p : ℕ) → Stands p (now places) → at + p < length (now cells)) ⌝ }
     ensures { λ r. ⌜ now (cells .exit) ≡ scattered (now (cells .entry)) at (now (places .entry)) (now (row .entry)) ⌝ }
@@ -44,7 +44,7 @@ pub fn widen_row(row: &[u32], places: &[usize], cells: &mut [u32], at: usize)
 }
 
 // Writes the rows of an accepted image, each cell at its place, over the cells from at.
-pub fn widen_rows(image: &[u32], all: &[u32], places: &[usize], cells: &mut [u32], at: usize)
+fn widen_rows(image: &[u32], all: &[u32], places: &[usize], cells: &mut [u32], at: usize)
     requires { ⌜ (imageNumber maxRows (now image) ≡ 0) × (distinct eqb (now all) ≡ true)
         × Covers (inOrder (now all)) (now image)
         × (now places ≡ placesIn (inOrder (now all)) (imageIds (now image))) ⌝ }
@@ -71,7 +71,7 @@ pub fn widen_rows(image: &[u32], all: &[u32], places: &[usize], cells: &mut [u32
 }
 
 // Writes the rows of an accepted image, widened to columns with these ids in order, over the empty cells from at.
-pub fn widen_table(image: &[u32], all: &[u32], cells: &mut [u32], at: usize)
+pub(crate) fn widen_table(image: &[u32], all: &[u32], cells: &mut [u32], at: usize)
     requires { ⌜ (imageNumber maxRows (now image) ≡ 0) × (distinct eqb (now all) ≡ true)
         × Covers (inOrder (now all)) (now image)
         × (length (now all) ≤ maxColumns) ⌝ }

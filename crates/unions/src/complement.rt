@@ -20,7 +20,7 @@ use tables::Table;
 use tables::union_rows;
 
 // Lists the maximal sets of the first n rows; how many they are, at most 1,025. Each column's word holds the rows that are filled there.
-pub fn list_sets(
+fn list_sets(
     cells: &[u32],
     n: usize,
     width: usize,
@@ -38,7 +38,7 @@ pub fn list_sets(
 
 // Joins the rows of each set, and names the distinct joined rows ascending by their numbers; how many they are. The place of each set's
 // joined row among them is written too: until then `places` is the spare list of the ordering.
-pub fn fuse_rows(
+fn fuse_rows(
     cells: &[u32],
     n: usize,
     width: usize,
@@ -64,7 +64,7 @@ pub fn fuse_rows(
 }
 
 // The questions 10 and 11, for so many words and so much room: the number of the first answered no, or 0.
-pub fn check_room(words: usize, room: usize, set_words: usize, set_room: usize) -> u32
+fn check_room(words: usize, room: usize, set_words: usize, set_room: usize) -> u32
     ensures { λ r. ⌜ Roomy words room «set_words» «set_room» r ⌝ }
 {
     if room < words {
@@ -77,7 +77,7 @@ pub fn check_room(words: usize, room: usize, set_words: usize, set_room: usize) 
 }
 
 // The fused table goes to the table buffer, the set list to the set buffer. The lists for joined rows have room for the sets.
-pub fn write_fused(
+fn write_fused(
     ids: &[u32],
     cells: &[u32],
     n: usize,
@@ -115,7 +115,7 @@ pub fn write_fused(
 }
 
 // Lends lists for 64 joined rows.
-pub fn fuse_few(
+fn fuse_few(
     ids: &[u32],
     cells: &[u32],
     n: usize,
@@ -146,7 +146,7 @@ pub fn fuse_few(
 }
 
 // Lends lists for 256 joined rows.
-pub fn fuse_some(
+fn fuse_some(
     ids: &[u32],
     cells: &[u32],
     n: usize,
@@ -177,7 +177,7 @@ pub fn fuse_some(
 }
 
 // Lends lists for 1,024 joined rows.
-pub fn fuse_many(
+fn fuse_many(
     ids: &[u32],
     cells: &[u32],
     n: usize,
@@ -209,7 +209,7 @@ pub fn fuse_many(
 
 // Lends lists for the joined rows that are as short as the number of sets allows, because to clear long ones takes longer than the rest of
 // a call with few sets.
-pub fn fuse_sets(
+fn fuse_sets(
     ids: &[u32],
     cells: &[u32],
     n: usize,
@@ -232,7 +232,7 @@ pub fn fuse_sets(
 }
 
 // The questions from 9 on, and what they leave to write, for the first n rows of a table in work and the first ids, a column each.
-pub fn fuse_table<'a>(
+fn fuse_table<'a>(
     ids: &'a [u32],
     width: usize,
     cells: &'a [u32],

@@ -11,7 +11,7 @@ ghost use Rattle.definitions.specs.MinimumUnion.{filled};
 ghost use Rattle.rows.specs.Numbers.{rowsAt, Fit};
 
 // Writes the column words of the first n ids, from word 1 of the buffer.
-pub fn write_ids(buffer: &mut [u32], ids: &[u32], n: usize)
+fn write_ids(buffer: &mut [u32], ids: &[u32], n: usize)
     requires { ⌜ (n ≤ length (now ids)) × (n < length (now buffer)) ⌝ }
     requires { ⌜ ((k : ℕ) → k < n → getD (now ids) k 0 < 2 ^ 16) ⌝ }
     ensures { λ r. ⌜ now (buffer .exit) ≡ paste (now (buffer .entry)) 1 (map columnWord (now (ids .entry))) n ⌝ }
@@ -24,7 +24,7 @@ pub fn write_ids(buffer: &mut [u32], ids: &[u32], n: usize)
 }
 
 // Writes the header and the column words of an image over the front of the buffer.
-pub fn write_head(buffer: &mut [u32], rows: usize, ids: &[u32], n: usize)
+fn write_head(buffer: &mut [u32], rows: usize, ids: &[u32], n: usize)
     requires { ⌜ (n ≤ length (now ids)) × (n < length (now buffer)) × (rows < 2 ^ 12) × (n < 2 ^ 5) ⌝ }
     requires { ⌜ ((k : ℕ) → k < n → getD (now ids) k 0 < 2 ^ 16) ⌝ }
     ensures { λ r. ⌜ now (buffer .exit) ≡ paste (now (buffer .entry)) 0
@@ -35,7 +35,7 @@ pub fn write_head(buffer: &mut [u32], rows: usize, ids: &[u32], n: usize)
 }
 
 // Writes the image of the rows at the first m numbers over the front of the buffer; how many of their cells are filled.
-pub fn write_table<'a>(
+pub(crate) fn write_table<'a>(
     buffer: &mut [u32],
     ids: &'a [u32],
     columns: usize,

@@ -6,14 +6,14 @@ ghost use Rattle.unions.specs.Pair.{Checked};
 use tables::Table;
 
 // The number of the first question answered no and its table, or 0 and how many columns the union has.
-pub struct Checks {
-    pub number: u32,
-    pub table: u32,
+pub(crate) struct Checks {
+    pub(crate) number: u32,
+    pub(crate) table: u32,
     pub columns: usize,
 }
 
 // Writes the ids of both images over the list, each once, to count them; an accepted pair's table is made of them.
-pub fn check_pair(a: &[u32], b: &[u32], all: &mut [u32]) -> Checks
+pub(crate) fn check_pair(a: &[u32], b: &[u32], all: &mut [u32]) -> Checks
     requires { ⌜ maxIds ≤ length (now all) ⌝ }
     ensures { λ r. ⌜ Checked (now (a .entry)) (now (b .entry)) (now (all .exit)) r ⌝ }
 {
