@@ -5,10 +5,10 @@ use mathlib.Core.List.{List, [], _∷_, map, flatten}
 use mathlib.Core.Option.{Option, none, some}
 use Prim.Native.Nat.{ℕ, _+_, _*_}
 use lib.Dec.{eqb}
-use lib.ListN.{length}
+use lib.ListN.{length, getD}
 use Rattle.definitions.specs.Lists.{all, any, keep, place, distinct, allBelow, sumBelow}
 use Rattle.definitions.specs.Word.{wordOf}
-use Rattle.definitions.specs.Image.{imageOf}
+use Rattle.definitions.specs.Image.{imageOf, imageRows}
 use Rattle.definitions.specs.Ascending.{insert, ascending}
 use Rattle.definitions.specs.OuterUnion.{compareRow, unionIds, widened, widenedRows, unionRows}
 use Rattle.definitions.specs.MinimumUnion.{filled, covers, subsumes, minimumRows}
@@ -41,10 +41,8 @@ three = 7 ∷ 8 ∷ 9 ∷ []
 abbrev four : List ℕ
 four = 6 ∷ 7 ∷ 8 ∷ 9 ∷ []
 
--- two rows, and what is expected of them
-record Pair : Type 0 where
-  s : List ℕ
-  t : List ℕ
+-- what is expected of two rows s and t
+record Verdicts : Type 0 where
   equal : Bool
   -- some column is filled in both with the same number
   sharing : Bool
@@ -68,8 +66,8 @@ record Case : Type 0 where
   -- the joined row of each set
   joinedRows : List (List ℕ)
   fused : List (List ℕ)
-  -- besides: the two rows that the paper compares
-  pair : Option Pair
+  -- besides: what the paper says of s, the row of the first table, and t, that of the second
+  pair : Option Verdicts
   -- besides: what fusing the joined rows gives
   again : Option (List (List ℕ))
 
@@ -114,8 +112,6 @@ cases =
       pair =
           some
           (record {
-            s = # 1 ∷ # 2 ∷ ∅ ∷ [];
-            t = # 1 ∷ ∅ ∷ ∅ ∷ [];
             equal = ○;
             sharing = ●;
             subsuming = ●;
@@ -137,8 +133,6 @@ cases =
       pair =
           some
           (record {
-            s = # 1 ∷ # 2 ∷ ∅ ∷ [];
-            t = ∅ ∷ ∅ ∷ # 3 ∷ [];
             equal = ○;
             sharing = ○;
             subsuming = ○;
@@ -160,8 +154,6 @@ cases =
       pair =
           some
           (record {
-            s = # 1 ∷ # 2 ∷ ∅ ∷ [];
-            t = # 1 ∷ ∅ ∷ # 3 ∷ [];
             equal = ○;
             sharing = ●;
             subsuming = ○;
@@ -183,8 +175,6 @@ cases =
       pair =
           some
           (record {
-            s = # 0 ∷ ∅ ∷ [];
-            t = ∅ ∷ ∅ ∷ [];
             equal = ○;
             sharing = ○;
             subsuming = ●;
@@ -260,14 +250,18 @@ values (done counts) = counts
 values (refused number table) = []
 
 -- the tests of two rows, of which complementing is put both ways
-pairRight : Pair → Bool
-pairRight p =
-    Bool·beq (sameRow (p .s) (p .t)) (p .equal)
-    && Bool·beq (share (p .s) (p .t)) (p .sharing)
-    && Bool·beq (subsumes (p .s) (p .t)) (p .subsuming)
-    && Bool·beq (subsumes (p .t) (p .s)) (p .subsumed)
-    && Bool·beq (complement (p .s) (p .t)) (p .complementing)
-    && Bool·beq (complement (p .t) (p .s)) (p .complementing)
+pairRight : List ℕ → List ℕ → Verdicts → Bool
+pairRight s t v =
+    Bool·beq (sameRow s t) (v .equal)
+    && Bool·beq (share s t) (v .sharing)
+    && Bool·beq (subsumes s t) (v .subsuming)
+    && Bool·beq (subsumes t s) (v .subsumed)
+    && Bool·beq (complement s t) (v .complementing)
+    && Bool·beq (complement t s) (v .complementing)
+
+-- the first row of a table
+firstRow : List ℕ → List ℕ
+firstRow image = getD (imageRows image) 0 []
 
 -- the image has the union's columns and these rows
 hasRows : Case → List ℕ → List (List ℕ) → Bool
@@ -295,11 +289,11 @@ right c =
     && same (same Bool·beq) (unionSets t) (c .sets)
     && same sameRow (map (joined t) (unionSets t)) (c .joinedRows)
     && same eqb (values (complementOutcome a b 100 100)) (counts c)
-    && ifSaid pairRight (c .pair)
+    && ifSaid (pairRight (firstRow a) (firstRow b)) (c .pair)
     && ifSaid (againRight c) (c .again)
 
 paper : all right cases ≡ true
-unfolding pairRight hasRows againRight counts right all any keep place distinct allBelow sumBelow imageOf flatten insert ascending
+unfolding pairRight firstRow hasRows againRight counts right all any keep place distinct allBelow sumBelow imageOf flatten insert ascending
     compareRow unionIds widened widenedRows unionRows filled covers subsumes minimumRows sameRow agree share complement marked subsets
     nearAll isComplementing isMaximal maximalSets members join joinAll joined unionSets fusedRows bits marksFrom setRecord setList
     imageNumber pairNumber outerImage minimumImage fusedImage complementOutcome
