@@ -1,13 +1,14 @@
 -- Document 01, "Rows on paper": P1 to P9 as the rows of one joint check of the definitions. Assumes nothing.
 use mathlib.Core.Path.{_≡_, refl}
 use mathlib.Core.Bool.{Bool, true, false, _&&_, Bool·beq}
-use mathlib.Core.List.{List, [], _∷_, flatten}
+use mathlib.Core.List.{List, [], _∷_, map, flatten}
+use mathlib.Core.Option.{Option, none, some}
 use Prim.Native.Nat.{ℕ, _+_, _*_}
 use lib.Dec.{eqb}
-use lib.ListN.{length, take, drop}
+use lib.ListN.{length, getD}
 use Rattle.definitions.specs.Lists.{all, any, keep, place, distinct, allBelow, sumBelow}
 use Rattle.definitions.specs.Word.{wordOf}
-use Rattle.definitions.specs.Image.{imageOf}
+use Rattle.definitions.specs.Image.{imageOf, imageRows}
 use Rattle.definitions.specs.Ascending.{insert, ascending}
 use Rattle.definitions.specs.OuterUnion.{compareRow, unionIds, widened, widenedRows, unionRows}
 use Rattle.definitions.specs.MinimumUnion.{filled, covers, subsumes, minimumRows}
@@ -15,7 +16,7 @@ use Rattle.definitions.specs.ComplementUnion.{sameRow, agree, share, com
 use Rattle.definitions.specs.SetList.{bits, marksFrom, setRecord, setList}
 use Rattle.definitions.specs.Questions.{imageNumber}
 use Rattle.definitions.specs.Answer.{Outcome, done, refused}
-use Rattle.definitions.specs.Calls.{pairNumber, fusedImage, complementOutcome}
+use Rattle.definitions.specs.Calls.{pairNumber, outerImage, minimumImage, fusedImage, complementOutcome}
 
 -- a filled cell with its number, and the empty cell
 abbrev # : ℕ → ℕ
@@ -30,93 +31,205 @@ abbrev ● : Bool
 abbrev ○ : Bool
 ○ = false
 
--- rows, the first in the first table and the others in the second, and what is expected of them
+-- the columns of a table
+abbrev two : List ℕ
+two = 7 ∷ 9 ∷ []
+
+abbrev three : List ℕ
+three = 7 ∷ 8 ∷ 9 ∷ []
+
+abbrev four : List ℕ
+four = 6 ∷ 7 ∷ 8 ∷ 9 ∷ []
+
+-- what is expected of two rows s and t
+record Verdicts : Type 0 where
+  equal : Bool
+  -- some column is filled in both with the same number
+  sharing : Bool
+  -- s subsumes t
+  subsuming : Bool
+  -- t subsumes s
+  subsumed : Bool
+  complementing : Bool
+
+-- two images, and what is expected of them
 record Case : Type 0 where
-  ids : List ℕ
-  rows : List (List ℕ)
-  -- the minimum union
+  first : List ℕ
+  second : List ℕ
+  -- the union's column ids
+  columns : List ℕ
+  -- T
+  union : List (List ℕ)
   minimum : List (List ℕ)
   -- the sets, as marks of the positions in T
   sets : List (List Bool)
+  -- the joined row of each set
+  joinedRows : List (List ℕ)
   fused : List (List ℕ)
-  -- the fused rows of the joined rows
-  again : List (List ℕ)
+  -- besides: what the paper says of s, the row of the first table, and t, that of the second
+  pair : Option Verdicts
+  -- besides: what fusing the joined rows gives
+  again : Option (List (List ℕ))
 
 abbrev cases : List Case
 cases =
     -- P1: two tables without rows: no sets, no rows, columns kept
-    record { ids = 7 ∷ 9 ∷ []; rows = []; minimum = []; sets = []; fused = []; again = [] }
+    record {
+      first = imageOf (9 ∷ 7 ∷ []) [];
+      second = imageOf (8 ∷ 7 ∷ []) [];
+      columns = three;
+      union = [];
+      minimum = [];
+      sets = [];
+      joinedRows = [];
+      fused = [];
+      pair = none;
+      again = none;
+    }
     -- P2: (-,-) alone: a single set, itself
     ∷ record {
-      ids = 7 ∷ 9 ∷ [];
-      rows = (∅ ∷ ∅ ∷ []) ∷ [];
+      first = imageOf two ((∅ ∷ ∅ ∷ []) ∷ []);
+      second = imageOf two [];
+      columns = two;
+      union = (∅ ∷ ∅ ∷ []) ∷ [];
       minimum = (∅ ∷ ∅ ∷ []) ∷ [];
       sets = (● ∷ []) ∷ [];
+      joinedRows = (∅ ∷ ∅ ∷ []) ∷ [];
       fused = (∅ ∷ ∅ ∷ []) ∷ [];
-      again = (∅ ∷ ∅ ∷ []) ∷ [];
+      pair = none;
+      again = none;
     }
     -- P3: (1,2,-) subsumes (1,-,-); they don't complement
     ∷ record {
-      ids = 7 ∷ 8 ∷ 9 ∷ [];
-      rows = (# 1 ∷ # 2 ∷ ∅ ∷ []) ∷ (# 1 ∷ ∅ ∷ ∅ ∷ []) ∷ [];
+      first = imageOf three ((# 1 ∷ # 2 ∷ ∅ ∷ []) ∷ []);
+      second = imageOf three ((# 1 ∷ ∅ ∷ ∅ ∷ []) ∷ []);
+      columns = three;
+      union = (# 1 ∷ ∅ ∷ ∅ ∷ []) ∷ (# 1 ∷ # 2 ∷ ∅ ∷ []) ∷ [];
       minimum = (# 1 ∷ # 2 ∷ ∅ ∷ []) ∷ [];
       sets = (● ∷ ○ ∷ []) ∷ (○ ∷ ● ∷ []) ∷ [];
+      joinedRows = (# 1 ∷ ∅ ∷ ∅ ∷ []) ∷ (# 1 ∷ # 2 ∷ ∅ ∷ []) ∷ [];
       fused = (# 1 ∷ ∅ ∷ ∅ ∷ []) ∷ (# 1 ∷ # 2 ∷ ∅ ∷ []) ∷ [];
-      again = (# 1 ∷ ∅ ∷ ∅ ∷ []) ∷ (# 1 ∷ # 2 ∷ ∅ ∷ []) ∷ [];
+      pair =
+          some
+          (record {
+            equal = ○;
+            sharing = ●;
+            subsuming = ●;
+            subsumed = ○;
+            complementing = ○;
+          });
+      again = none;
     }
     -- P4: (1,2,-) and (-,-,3): no shared number, no complement
     ∷ record {
-      ids = 7 ∷ 8 ∷ 9 ∷ [];
-      rows = (# 1 ∷ # 2 ∷ ∅ ∷ []) ∷ (∅ ∷ ∅ ∷ # 3 ∷ []) ∷ [];
+      first = imageOf three ((# 1 ∷ # 2 ∷ ∅ ∷ []) ∷ []);
+      second = imageOf three ((∅ ∷ ∅ ∷ # 3 ∷ []) ∷ []);
+      columns = three;
+      union = (∅ ∷ ∅ ∷ # 3 ∷ []) ∷ (# 1 ∷ # 2 ∷ ∅ ∷ []) ∷ [];
       minimum = (∅ ∷ ∅ ∷ # 3 ∷ []) ∷ (# 1 ∷ # 2 ∷ ∅ ∷ []) ∷ [];
       sets = (● ∷ ○ ∷ []) ∷ (○ ∷ ● ∷ []) ∷ [];
+      joinedRows = (∅ ∷ ∅ ∷ # 3 ∷ []) ∷ (# 1 ∷ # 2 ∷ ∅ ∷ []) ∷ [];
       fused = (∅ ∷ ∅ ∷ # 3 ∷ []) ∷ (# 1 ∷ # 2 ∷ ∅ ∷ []) ∷ [];
-      again = (∅ ∷ ∅ ∷ # 3 ∷ []) ∷ (# 1 ∷ # 2 ∷ ∅ ∷ []) ∷ [];
+      pair =
+          some
+          (record {
+            equal = ○;
+            sharing = ○;
+            subsuming = ○;
+            subsumed = ○;
+            complementing = ○;
+          });
+      again = none;
     }
     -- P5: (1,2,-) and (1,-,3) complement; joined (1,2,3)
     ∷ record {
-      ids = 7 ∷ 8 ∷ 9 ∷ [];
-      rows = (# 1 ∷ # 2 ∷ ∅ ∷ []) ∷ (# 1 ∷ ∅ ∷ # 3 ∷ []) ∷ [];
+      first = imageOf three ((# 1 ∷ # 2 ∷ ∅ ∷ []) ∷ []);
+      second = imageOf three ((# 1 ∷ ∅ ∷ # 3 ∷ []) ∷ []);
+      columns = three;
+      union = (# 1 ∷ ∅ ∷ # 3 ∷ []) ∷ (# 1 ∷ # 2 ∷ ∅ ∷ []) ∷ [];
       minimum = (# 1 ∷ ∅ ∷ # 3 ∷ []) ∷ (# 1 ∷ # 2 ∷ ∅ ∷ []) ∷ [];
       sets = (● ∷ ● ∷ []) ∷ [];
+      joinedRows = (# 1 ∷ # 2 ∷ # 3 ∷ []) ∷ [];
       fused = (# 1 ∷ # 2 ∷ # 3 ∷ []) ∷ [];
-      again = (# 1 ∷ # 2 ∷ # 3 ∷ []) ∷ [];
+      pair =
+          some
+          (record {
+            equal = ○;
+            sharing = ●;
+            subsuming = ○;
+            subsumed = ○;
+            complementing = ●;
+          });
+      again = none;
     }
     -- P6: (0,-) and (-,-) differ; the first subsumes
     ∷ record {
-      ids = 7 ∷ 9 ∷ [];
-      rows = (# 0 ∷ ∅ ∷ []) ∷ (∅ ∷ ∅ ∷ []) ∷ [];
+      first = imageOf two ((# 0 ∷ ∅ ∷ []) ∷ []);
+      second = imageOf two ((∅ ∷ ∅ ∷ []) ∷ []);
+      columns = two;
+      union = (∅ ∷ ∅ ∷ []) ∷ (# 0 ∷ ∅ ∷ []) ∷ [];
       minimum = (# 0 ∷ ∅ ∷ []) ∷ [];
       sets = (● ∷ ○ ∷ []) ∷ (○ ∷ ● ∷ []) ∷ [];
+      joinedRows = (∅ ∷ ∅ ∷ []) ∷ (# 0 ∷ ∅ ∷ []) ∷ [];
       fused = (∅ ∷ ∅ ∷ []) ∷ (# 0 ∷ ∅ ∷ []) ∷ [];
-      again = (∅ ∷ ∅ ∷ []) ∷ (# 0 ∷ ∅ ∷ []) ∷ [];
+      pair =
+          some
+          (record {
+            equal = ○;
+            sharing = ○;
+            subsuming = ●;
+            subsumed = ○;
+            complementing = ○;
+          });
+      again = none;
     }
-    -- P7: (1,2,-,-), (-,2,3,-), (-,-,3,4), (1,-,-,4): four sets, of two rows each; fusing the joined rows gives (1,2,3,4) alone
+    -- P7: (1,2,-,-), (-,2,3,-), (-,-,3,4), (1,-,-,4): four sets, of two rows each.
+    -- Fusing the four joined rows gives (1,2,3,4) alone.
     ∷ record {
-      ids = 6 ∷ 7 ∷ 8 ∷ 9 ∷ [];
-      rows = (# 1 ∷ # 2 ∷ ∅ ∷ ∅ ∷ []) ∷ (∅ ∷ # 2 ∷ # 3 ∷ ∅ ∷ []) ∷ (∅ ∷ ∅ ∷ # 3 ∷ # 4 ∷ []) ∷ (# 1 ∷ ∅ ∷ ∅ ∷ # 4 ∷ []) ∷ [];
-      minimum = (∅ ∷ ∅ ∷ # 3 ∷ # 4 ∷ []) ∷ (∅ ∷ # 2 ∷ # 3 ∷ ∅ ∷ []) ∷ (# 1 ∷ ∅ ∷ ∅ ∷ # 4 ∷ []) ∷ (# 1 ∷ # 2 ∷ ∅ ∷ ∅ ∷ []) ∷ [];
+      first = imageOf four ((# 1 ∷ # 2 ∷ ∅ ∷ ∅ ∷ []) ∷ (∅ ∷ # 2 ∷ # 3 ∷ ∅ ∷ []) ∷ []);
+      second = imageOf four ((∅ ∷ ∅ ∷ # 3 ∷ # 4 ∷ []) ∷ (# 1 ∷ ∅ ∷ ∅ ∷ # 4 ∷ []) ∷ []);
+      columns = four;
+      union =
+          (∅ ∷ ∅ ∷ # 3 ∷ # 4 ∷ []) ∷ (∅ ∷ # 2 ∷ # 3 ∷ ∅ ∷ []) ∷
+          (# 1 ∷ ∅ ∷ ∅ ∷ # 4 ∷ []) ∷ (# 1 ∷ # 2 ∷ ∅ ∷ ∅ ∷ []) ∷ [];
+      minimum =
+          (∅ ∷ ∅ ∷ # 3 ∷ # 4 ∷ []) ∷ (∅ ∷ # 2 ∷ # 3 ∷ ∅ ∷ []) ∷
+          (# 1 ∷ ∅ ∷ ∅ ∷ # 4 ∷ []) ∷ (# 1 ∷ # 2 ∷ ∅ ∷ ∅ ∷ []) ∷ [];
       sets = (● ∷ ● ∷ ○ ∷ ○ ∷ []) ∷ (● ∷ ○ ∷ ● ∷ ○ ∷ []) ∷ (○ ∷ ● ∷ ○ ∷ ● ∷ []) ∷ (○ ∷ ○ ∷ ● ∷ ● ∷ []) ∷ [];
-      fused = (∅ ∷ # 2 ∷ # 3 ∷ # 4 ∷ []) ∷ (# 1 ∷ ∅ ∷ # 3 ∷ # 4 ∷ []) ∷ (# 1 ∷ # 2 ∷ ∅ ∷ # 4 ∷ []) ∷ (# 1 ∷ # 2 ∷ # 3 ∷ ∅ ∷ []) ∷ [];
-      again = (# 1 ∷ # 2 ∷ # 3 ∷ # 4 ∷ []) ∷ [];
+      joinedRows =
+          (∅ ∷ # 2 ∷ # 3 ∷ # 4 ∷ []) ∷ (# 1 ∷ ∅ ∷ # 3 ∷ # 4 ∷ []) ∷
+          (# 1 ∷ # 2 ∷ # 3 ∷ ∅ ∷ []) ∷ (# 1 ∷ # 2 ∷ ∅ ∷ # 4 ∷ []) ∷ [];
+      fused =
+          (∅ ∷ # 2 ∷ # 3 ∷ # 4 ∷ []) ∷ (# 1 ∷ ∅ ∷ # 3 ∷ # 4 ∷ []) ∷
+          (# 1 ∷ # 2 ∷ ∅ ∷ # 4 ∷ []) ∷ (# 1 ∷ # 2 ∷ # 3 ∷ ∅ ∷ []) ∷ [];
+      pair = none;
+      again = some ((# 1 ∷ # 2 ∷ # 3 ∷ # 4 ∷ []) ∷ []);
     }
     -- P8: (1,2,-), (1,-,3), (-,2,3): one set of three
     ∷ record {
-      ids = 7 ∷ 8 ∷ 9 ∷ [];
-      rows = (# 1 ∷ # 2 ∷ ∅ ∷ []) ∷ (# 1 ∷ ∅ ∷ # 3 ∷ []) ∷ (∅ ∷ # 2 ∷ # 3 ∷ []) ∷ [];
+      first = imageOf three ((# 1 ∷ # 2 ∷ ∅ ∷ []) ∷ (# 1 ∷ ∅ ∷ # 3 ∷ []) ∷ []);
+      second = imageOf three ((∅ ∷ # 2 ∷ # 3 ∷ []) ∷ []);
+      columns = three;
+      union = (∅ ∷ # 2 ∷ # 3 ∷ []) ∷ (# 1 ∷ ∅ ∷ # 3 ∷ []) ∷ (# 1 ∷ # 2 ∷ ∅ ∷ []) ∷ [];
       minimum = (∅ ∷ # 2 ∷ # 3 ∷ []) ∷ (# 1 ∷ ∅ ∷ # 3 ∷ []) ∷ (# 1 ∷ # 2 ∷ ∅ ∷ []) ∷ [];
       sets = (● ∷ ● ∷ ● ∷ []) ∷ [];
+      joinedRows = (# 1 ∷ # 2 ∷ # 3 ∷ []) ∷ [];
       fused = (# 1 ∷ # 2 ∷ # 3 ∷ []) ∷ [];
-      again = (# 1 ∷ # 2 ∷ # 3 ∷ []) ∷ [];
+      pair = none;
+      again = none;
     }
     -- P9: (1,2,-,4), (1,-,3,4), (1,2,-,-): two sets, one fused row
     ∷ record {
-      ids = 6 ∷ 7 ∷ 8 ∷ 9 ∷ [];
-      rows = (# 1 ∷ # 2 ∷ ∅ ∷ # 4 ∷ []) ∷ (# 1 ∷ ∅ ∷ # 3 ∷ # 4 ∷ []) ∷ (# 1 ∷ # 2 ∷ ∅ ∷ ∅ ∷ []) ∷ [];
+      first = imageOf four ((# 1 ∷ # 2 ∷ ∅ ∷ # 4 ∷ []) ∷ (# 1 ∷ ∅ ∷ # 3 ∷ # 4 ∷ []) ∷ []);
+      second = imageOf four ((# 1 ∷ # 2 ∷ ∅ ∷ ∅ ∷ []) ∷ []);
+      columns = four;
+      union = (# 1 ∷ ∅ ∷ # 3 ∷ # 4 ∷ []) ∷ (# 1 ∷ # 2 ∷ ∅ ∷ ∅ ∷ []) ∷ (# 1 ∷ # 2 ∷ ∅ ∷ # 4 ∷ []) ∷ [];
       minimum = (# 1 ∷ ∅ ∷ # 3 ∷ # 4 ∷ []) ∷ (# 1 ∷ # 2 ∷ ∅ ∷ # 4 ∷ []) ∷ [];
       sets = (● ∷ ● ∷ ○ ∷ []) ∷ (● ∷ ○ ∷ ● ∷ []) ∷ [];
+      joinedRows = (# 1 ∷ # 2 ∷ # 3 ∷ # 4 ∷ []) ∷ (# 1 ∷ # 2 ∷ # 3 ∷ # 4 ∷ []) ∷ [];
       fused = (# 1 ∷ # 2 ∷ # 3 ∷ # 4 ∷ []) ∷ [];
-      again = (# 1 ∷ # 2 ∷ # 3 ∷ # 4 ∷ []) ∷ [];
+      pair = none;
+      again = none;
     }
     ∷ []
 
@@ -127,33 +240,61 @@ same eq [] (y ∷ t) = false
 same eq (x ∷ s) [] = false
 same eq (x ∷ s) (y ∷ t) = eq x y && same eq s t
 
+-- what the paper says besides passes the test
+abbrev ifSaid : {A : Type 0} → (A → Bool) → Option A → Bool
+ifSaid test none = true
+ifSaid test (some x) = test x
+
 abbrev values : Outcome → List ℕ
 values (done counts) = counts
 values (refused number table) = []
 
-first : Case → List ℕ
-first c = imageOf (c .ids) (take 1 (c .rows))
+-- the tests of two rows, of which complementing is put both ways
+pairRight : List ℕ → List ℕ → Verdicts → Bool
+pairRight s t v =
+    Bool·beq (sameRow s t) (v .equal)
+    && Bool·beq (share s t) (v .sharing)
+    && Bool·beq (subsumes s t) (v .subsuming)
+    && Bool·beq (subsumes t s) (v .subsumed)
+    && Bool·beq (complement s t) (v .complementing)
+    && Bool·beq (complement t s) (v .complementing)
 
-second : Case → List ℕ
-second c = imageOf (c .ids) (drop 1 (c .rows))
+-- the first row of a table
+firstRow : List ℕ → List ℕ
+firstRow image = getD (imageRows image) 0 []
 
--- the rows of T are as the case expects, and so are the image, the set list's count and the counts of the answer
+-- the image has the union's columns and these rows
+hasRows : Case → List ℕ → List (List ℕ) → Bool
+hasRows c image rows = same eqb image (imageOf (c .columns) rows)
+
+-- the joined rows, as the rows of one table, are fused
+againRight : Case → List (List ℕ) → Bool
+againRight c = hasRows c (fusedImage (imageOf (c .columns) (c .joinedRows)) (imageOf (c .columns) []))
+
+-- rows, words written, filled cells, sets and words of the set list
+counts : Case → List ℕ
+counts c =
+    length (c .fused) ∷ length (imageOf (c .columns) (c .fused)) ∷ filled (flatten (c .fused))
+    ∷ length (c .sets) ∷ (1 + 4 * length (c .sets)) ∷ []
+
+-- the three images, the sets, their joined rows, the counts of the answer, and what the paper says besides are as expected
 right : Case → Bool
 right c =
-    let a = first c in
-    let b = second c in
+    let a = c .first in
+    let b = c .second in
     let t = unionRows a b in
-    same sameRow (minimumRows t) (c .minimum)
+    hasRows c (outerImage a b) (c .union)
+    && hasRows c (minimumImage a b) (c .minimum)
+    && hasRows c (fusedImage a b) (c .fused)
     && same (same Bool·beq) (unionSets t) (c .sets)
-    && same sameRow (fusedRows t) (c .fused)
-    && same sameRow (fusedRows (fusedRows t)) (c .again)
-    && same eqb (fusedImage a b) (imageOf (c .ids) (c .fused))
-    && same eqb (values (complementOutcome a b 100 100))
-    (length (c .fused) ∷ length (imageOf (c .ids) (c .fused)) ∷ filled (flatten (c .fused)) ∷ length (c .sets) ∷ (1 + 4 * length (c .sets)) ∷ [])
+    && same sameRow (map (joined t) (unionSets t)) (c .joinedRows)
+    && same eqb (values (complementOutcome a b 100 100)) (counts c)
+    && ifSaid (pairRight (firstRow a) (firstRow b)) (c .pair)
+    && ifSaid (againRight c) (c .again)
 
 paper : all right cases ≡ true
-unfolding first second right all any keep place distinct allBelow sumBelow imageOf flatten insert ascending compareRow unionIds widened
-    widenedRows unionRows filled covers subsumes minimumRows sameRow agree share complement marked subsets nearAll isComplementing isMaximal
-    maximalSets members join joinAll joined unionSets fusedRows bits marksFrom setRecord setList imageNumber pairNumber fusedImage
-    complementOutcome
+unfolding pairRight firstRow hasRows againRight counts right all any keep place distinct allBelow sumBelow imageOf flatten insert ascending
+    compareRow unionIds widened widenedRows unionRows filled covers subsumes minimumRows sameRow agree share complement marked subsets
+    nearAll isComplementing isMaximal maximalSets members join joinAll joined unionSets fusedRows bits marksFrom setRecord setList
+    imageNumber pairNumber outerImage minimumImage fusedImage complementOutcome
 paper = refl
