@@ -13,7 +13,7 @@ use lib.Count.{trailingZeros, under}
 use lib.Pow.{pow-mono, pow-pos, ones-lt, shr-shr, shl-exact}
 use lib.Dec.{eqb, ltb, lit<, eqb·suc-suc, eqb·zero-suc, eqb·suc-zero}
 use borrow.Author.Tests.{eqb-true, eqb-false, eq-eqb, ltb-true, ltb-false}
-use Rattle.definitions.specs.ComplementUnion.{marked}
+use Rattle.definitions.specs.ComplementUnion.{contains}
 use Rattle.definitions.specs.SetList.{bits}
 use Rattle.definitions.proofs.SetWords.{bit-marks}
 use Rattle.definitions.proofs.Bools.{bool-cases, bool-eq, clash, not-so, and-l, and-r, and-i, or-l, or-r, or-cases}
@@ -216,9 +216,9 @@ mark-eqb : (m : Bool) → eqb (cond m 1 0) 1 ≡ m
 mark-eqb true = refl
 mark-eqb false = refl
 
-pub has-bits : (s : List Bool) (k : ℕ) → has (bits s) k ≡ marked s k
+pub has-bits : (s : List Bool) (k : ℕ) → has (bits s) k ≡ contains s k
 unfolding has
-has-bits s k = ap (λ (x : ℕ). eqb x 1) (bit-marks s k) ∙ mark-eqb (marked s k)
+has-bits s k = ap (λ (x : ℕ). eqb x 1) (bit-marks s k) ∙ mark-eqb (contains s k)
 
 -- ---- the lowest position
 

@@ -8,6 +8,10 @@ use lib.Dec.{eqb}
 use Rattle.definitions.specs.declared.Order.{Order}
 use Rattle.definitions.specs.declared.Order.the-variants.{Before, Same, After}
 
+-- the positions that a machine word holds: the operations of this crate are on one word
+abbrev pub wordBits : ℕ
+wordBits = 64
+
 -- position k is in the set
 unfoldable pub has : ℕ → ℕ → Bool
 has set k = eqb (set / 2 ^ k % 2) 1

@@ -5,9 +5,9 @@ use mathlib.Core.List.{List, [], _∷_, _++_, map, append-nil, append-assoc}
 use Prim.Native.Nat.{ℕ, _+_, _≤_, _<_}
 use native.Mathlib.Omega.{arith}
 use lib.ListN.{length, length-append, length-map}
-use Rattle.definitions.specs.Statements.{Stands}
-use Rattle.definitions.proofs.Ascending.{stands-split, stands-join}
-use Rattle.definitions.proofs.Lists.{stands-map, map-stands}
+use Rattle.definitions.specs.Statements.{Member}
+use Rattle.definitions.proofs.Ascending.{member-split, member-join}
+use Rattle.definitions.proofs.Lists.{member-map, map-member}
 use Rattle.cliques.specs.Maximal.{Once, Adds}
 use Rattle.cliques.proofs.Sublists.{once-join, once-map}
 
@@ -48,11 +48,11 @@ module _ (cap : ℕ) where
   adds-both P Q R {old} {mid} {list} f g h d a b = record {
     new = a .new ++ b .new;
     adds = b .adds ∙ ap (λ (l : List ℕ). l ++ b .new) (a .adds) ∙ append-assoc old (a .new) (b .new);
-    only = λ x k. ⊎-elim (λ p. f x (a .only x p)) (λ q. g x (b .only x q)) (stands-split x (a .new) (b .new) k);
+    only = λ x k. ⊎-elim (λ p. f x (a .only x p)) (λ q. g x (b .only x q)) (member-split x (a .new) (b .new) k);
     once = once-join (a .new) (b .new) (a .once) (b .once) (λ x p q. d x (a .only x p) (b .only x q));
     all = λ few x r.
         let size : length list ≡ length mid + length (b .new) = ap length (b .adds) ∙ length-append mid (b .new) in
-        stands-join x (a .new) (b .new) (⊎-elim (λ p. inl (a .all (omega arith) x p)) (λ q. inr (b .all few x q)) (h x r));
+        member-join x (a .new) (b .new) (⊎-elim (λ p. inl (a .all (omega arith) x p)) (λ q. inr (b .all few x q)) (h x r));
   }
 
   -- each new set is changed by a function, which makes sets of the second kind of those of the first, and all of them
@@ -60,16 +60,16 @@ module _ (cap : ℕ) where
       → ((y : ℕ) → Q y → (x : ℕ) × P x × (y ≡ f x)) → Adds P cap old (old ++ new) → Adds Q cap old (old ++ map f new)
   adds-map P Q f old new to apart from a =
       let same : new ≡ a .new = cancel old new (a .new) (a .adds) in
-      let own : (x : ℕ) → Stands x new → P x = λ x h. a .only x (subst (Stands x) same h) in
+      let own : (x : ℕ) → Member x new → P x = λ x h. a .only x (subst (Member x) same h) in
       let size : length (old ++ map f new) ≡ length (old ++ new) = length-append old (map f new) ∙ ap (λ (k : ℕ). length old + k) (length-map new f) ∙ sym (length-append old new) in
       record {
         new = map f new;
         adds = refl;
-        only = λ y h. let m = map-stands f y new h in subst Q (sym (m .2)) (to (m .0) (own (m .0) (m .1)));
+        only = λ y h. let m = map-member f y new h in subst Q (sym (m .2)) (to (m .0) (own (m .0) (m .1)));
         once = once-map f new (λ x y p q. apart x y (own x p) (own y q)) (subst Once (sym same) (a .once));
         all = λ few y q.
             let x = from y q in
-            subst (λ (z : ℕ). Stands z (map f new)) (sym (x .2)) (stands-map f (x .0) new (subst (Stands (x .0)) (sym same) (a .all (omega arith) (x .0) (x .1))));
+            subst (λ (z : ℕ). Member z (map f new)) (sym (x .2)) (member-map f (x .0) new (subst (Member (x .0)) (sym same) (a .all (omega arith) (x .0) (x .1))));
       }
     where
       tail : {x y : ℕ} {l m : List ℕ} → (x ∷ l) ≡ (y ∷ m) → l ≡ m

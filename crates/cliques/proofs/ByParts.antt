@@ -12,16 +12,16 @@ use borrow.Author.Tests.{eqb-true, eqb-false}
 use Rattle.definitions.proofs.Bools.{bool-cases, clash, not-so}
 use Rattle.bitsets.specs.Bits.{has, butNot, either, Inside, Sub, sizeBelow}
 use Rattle.bitsets.proofs.Bits.{In, some, has-none, same-set, but-in, but-l, but-out, either-l, either-r, either-cases}
-use Rattle.cliques.specs.Maximal.{NearAll, Max, Adds}
-use Rattle.cliques.specs.Search.{adjacent, Split, Run}
+use Rattle.cliques.specs.Maximal.{AdjacentToAll, Max, Adds}
+use Rattle.cliques.specs.Search.{adjacentBy, Split, Run}
 use Rattle.cliques.specs.Parts.{Part, Common, Parts, ends, fills, next}
 use Rattle.cliques.proofs.Maximal.{Simple}
 use Rattle.cliques.proofs.Adds.{adds-none, adds-both, adds-map}
 use Rattle.cliques.proofs.Run.{run-adds}
 
-module _ (N : ℕ → ℕ) (n : ℕ) (g : Simple (adjacent N) n) where
+module _ (N : ℕ → ℕ) (n : ℕ) (g : Simple (adjacentBy N) n) where
   abbrev M : ℕ → ℕ → Type 0
-  M = Max (adjacent N)
+  M = Max (adjacentBy N)
 
   -- a maximal set that is not empty
   abbrev pub Filled : ℕ → ℕ → Type 0
@@ -29,12 +29,12 @@ module _ (N : ℕ → ℕ) (n : ℕ) (g : Simple (adjacent N) n) where
 
   -- ---- the rows that complement all others of a part
 
-  module _ (part common : ℕ) (inside : Inside part n) (c : Common (adjacent N) part common) where
+  module _ (part common : ℕ) (inside : Inside part n) (c : Common (adjacentBy N) part common) where
     abbrev core : ℕ
     core = butNot part common
 
-    near-common : (j k : ℕ) → In part j → In common k → (j ≡ k → ⊥) → In (N j) k
-    near-common j k hj hk ne = g .symmetric j k (inside j hj) (inside k (c .within k hk)) ∙ c .all k j hk hj (λ e. ne (sym e))
+    adjacent-common : (j k : ℕ) → In part j → In common k → (j ≡ k → ⊥) → In (N j) k
+    adjacent-common j k hj hk ne = g .symmetric j k (inside j hj) (inside k (c .within k hk)) ∙ c .all k j hk hj (λ e. ne (sym e))
 
     core-part : Sub core part
     core-part = but-l part common
@@ -49,11 +49,11 @@ module _ (N : ℕ → ℕ) (n : ℕ) (g : Simple (adjacent N) n) where
       inside = λ k h. either-cases x common k h (λ p. core-part k (m .inside k p)) (c .within k);
       clique = λ j k hj hk ne.
           either-cases x common j hj
-          (λ p. either-cases x common k hk (λ q. m .clique j k p q ne) (λ q. near-common j k (core-part j (m .inside j p)) q ne))
+          (λ p. either-cases x common k hk (λ q. m .clique j k p q ne) (λ q. adjacent-common j k (core-part j (m .inside j p)) q ne))
           (λ p. c .all j k p (either-cases x common k hk (λ q. core-part k (m .inside k q)) (c .within k)) ne);
-      full = λ j h near. bool-cases (has common j)
-          (λ t. clash (near j (either-r x common j t)) (g .apart j (inside j h)))
-          (λ t. m .full j (but-in part common j h t) (λ k p. near k (either-l x common k p)));
+      full = λ j h adjacent. bool-cases (has common j)
+          (λ t. clash (adjacent j (either-r x common j t)) (g .apart j (inside j h)))
+          (λ t. m .full j (but-in part common j h t) (λ k p. adjacent k (either-l x common k p)));
     }
 
     -- and every set of the part is made so
@@ -69,8 +69,8 @@ module _ (N : ℕ → ℕ) (n : ℕ) (g : Simple (adjacent N) n) where
           record {
             inside = λ k h. but-in part common k (m .inside k (but-l y common k h)) (but-out y common k h);
             clique = λ j k hj hk ne. m .clique j k (but-l y common j hj) (but-l y common k hk) ne;
-            full = λ j h near. m .full j (core-part j h)
-                (λ k p. bool-cases (has common k) (λ t. near-common j k (core-part j h) t (core-apart j k h t)) (λ t. near k (but-in y common k p t)));
+            full = λ j h adjacent. m .full j (core-part j h)
+                (λ k p. bool-cases (has common k) (λ t. adjacent-common j k (core-part j h) t (core-apart j k h t)) (λ t. adjacent k (but-in y common k p t)));
           },
           same-set y (either x common)
               (λ k p. bool-cases (has common k) (either-r x common k) (λ t. either-l x common k (but-in y common k p t)))
@@ -89,7 +89,7 @@ module _ (N : ℕ → ℕ) (n : ℕ) (g : Simple (adjacent N) n) where
 
   -- ---- a part, and the rows that are left
 
-  module _ (rows part : ℕ) (inside : Inside rows n) (p : Part (adjacent N) rows part) where
+  module _ (rows part : ℕ) (inside : Inside rows n) (p : Part (adjacentBy N) rows part) where
     abbrev others : ℕ
     others = butNot rows part
 
@@ -111,9 +111,9 @@ module _ (N : ℕ → ℕ) (n : ℕ) (g : Simple (adjacent N) n) where
           record {
             inside = λ j h. p .within j (m .inside j h);
             clique = m .clique;
-            full = λ j h near. bool-cases (has part j) (λ t. m .full j t near)
+            full = λ j h adjacent. bool-cases (has part j) (λ t. m .full j t adjacent)
                 (λ t. clash (p .closed (k .0) j (m .inside (k .0) (k .1)) h
-                (g .symmetric (k .0) j (inside (k .0) (p .within (k .0) (m .inside (k .0) (k .1)))) (inside j h) ∙ near (k .0) (k .1))) t);
+                (g .symmetric (k .0) j (inside (k .0) (p .within (k .0) (m .inside (k .0) (k .1)))) (inside j h) ∙ adjacent (k .0) (k .1))) t);
           },
           k,
         )
@@ -123,9 +123,9 @@ module _ (N : ℕ → ℕ) (n : ℕ) (g : Simple (adjacent N) n) where
       record {
         inside = λ j h. but-l rows part j (m .inside j h);
         clique = m .clique;
-        full = λ j h near. bool-cases (has part j)
-            (λ t. let o = m .inside (k .0) (k .1) in clash (p .closed j (k .0) t (but-l rows part (k .0) o) (near (k .0) (k .1))) (but-out rows part (k .0) o))
-            (λ t. m .full j (but-in rows part j h t) near);
+        full = λ j h adjacent. bool-cases (has part j)
+            (λ t. let o = m .inside (k .0) (k .1) in clash (p .closed j (k .0) t (but-l rows part (k .0) o) (adjacent (k .0) (k .1))) (but-out rows part (k .0) o))
+            (λ t. m .full j (but-in rows part j h t) adjacent);
       },
       k,
     )
@@ -136,12 +136,12 @@ module _ (N : ℕ → ℕ) (n : ℕ) (g : Simple (adjacent N) n) where
     one-of : (x : ℕ) → Filled rows x → M part x ⊎ Filled others x
     one-of x (m, k) =
         bool-cases (has part (k .0))
-        (λ t. inl (record { inside = stays x m (k .0) (k .1) t; clique = m .clique; full = λ j h near. m .full j (p .within j h) near }))
+        (λ t. inl (record { inside = stays x m (k .0) (k .1) t; clique = m .clique; full = λ j h adjacent. m .full j (p .within j h) adjacent }))
         (λ t. inr (
           record {
             inside = λ j h. but-in rows part j (m .inside j h) (not-so (has part j) (λ q. clash (stays x m j h q (k .0) (k .1)) t));
             clique = m .clique;
-            full = λ j h near. m .full j (but-l rows part j h) near;
+            full = λ j h adjacent. m .full j (but-l rows part j h) adjacent;
           },
           k,
         ))

@@ -10,18 +10,18 @@ use lib.Seq.{length-take-le}
 use borrow.Author.Tests.{eqb-true, eqb-false, ltb-true, ltb-false}
 use Rattle.definitions.specs.Ascending.{ascending}
 use Rattle.definitions.specs.Limits.{maxSets}
-use Rattle.definitions.specs.Lists.{keep, allBelow}
-use Rattle.definitions.specs.Statements.{Stands}
+use Rattle.definitions.specs.Lists.{filter, allBelow}
+use Rattle.definitions.specs.Statements.{Member}
 use Rattle.definitions.specs.ComplementUnion.{subsets, isComplementing, maximalSets}
 use Rattle.definitions.specs.SetList.{bits}
 use Rattle.definitions.proofs.Bools.{bool-cases, clash}
-use Rattle.definitions.proofs.Ascending.{determined, is-rising, ascending-has, ascending-only}
+use Rattle.definitions.proofs.Ascending.{determined, is-strict, ascending-has, ascending-only}
 use Rattle.bitsets.specs.Bits.{has, rowsBelow, withRow, compareBits}
 use Rattle.bitsets.proofs.Bits.{In, some, has-none, has-with-self, has-with-old, has-with-cases, same-set, below-of, below-in}
 use Rattle.bitsets.proofs.Order.{setBits}
-use Rattle.cliques.specs.Graph.{near, Graph, AllSets}
+use Rattle.cliques.specs.Graph.{adjacent, Graph, AllSets}
 use Rattle.cliques.specs.Maximal.{Once, Max, Adds}
-use Rattle.cliques.specs.Search.{rowOf, adjacent}
+use Rattle.cliques.specs.Search.{rowOf, adjacentBy}
 use Rattle.cliques.specs.Parts.{RowsOf, Listed}
 use Rattle.cliques.proofs.Sublists.{ascending-once, no-longer}
 use Rattle.cliques.proofs.Maximal.{Simple}
@@ -31,23 +31,23 @@ use Rattle.cliques.proofs.ByParts.{Filled, parts-adds}
 use Rattle.cliques.proofs.Turns.{simple}
 
 -- the list has the definition's sets, or `cap` of them
-pub record Counted (near : ℕ → ℕ → Bool) (n cap : ℕ) (l : List ℕ) : Type 0 where
-  pub count : length l ≡ min cap (length (listed near n))
-  pub sets : length l < cap → ascending compareBits l ≡ listed near n
+pub record Counted (adjacent : ℕ → ℕ → Bool) (n cap : ℕ) (l : List ℕ) : Type 0 where
+  pub count : length l ≡ min cap (length (listed adjacent n))
+  pub sets : length l < cap → ascending compareBits l ≡ listed adjacent n
 
-pub counted : (near : ℕ → ℕ → Bool) (n : ℕ) → Simple near n → (cap : ℕ) (l : List ℕ) → 0 < n → length l ≤ cap → Adds (Max near (rowsBelow n)) cap [] l
-    → Counted near n cap l
-counted near n g cap l pos full m =
-    let all = listed near n in
+pub counted : (adjacent : ℕ → ℕ → Bool) (n : ℕ) → Simple adjacent n → (cap : ℕ) (l : List ℕ) → 0 < n → length l ≤ cap → Adds (Max adjacent (rowsBelow n)) cap [] l
+    → Counted adjacent n cap l
+counted adjacent n g cap l pos full m =
+    let all = listed adjacent n in
     let own = ascending compareBits l in
     let new : l ≡ m .new = m .adds in
-    let within : (x : ℕ) → Stands x own → Stands x all =
-    λ x h. max-listed near n (g .apart) pos x (m .only x (subst (Stands x) new (ascending-only setBits x l h))) in
-    let short : length own ≤ length all = no-longer setBits own all (is-rising setBits l) within in
+    let within : (x : ℕ) → Member x own → Member x all =
+    λ x h. max-listed adjacent n (g .apart) pos x (m .only x (subst (Member x) new (ascending-only setBits x l h))) in
+    let short : length own ≤ length all = no-longer setBits own all (is-strict setBits l) within in
     let each : length own ≡ length l = ascending-once setBits l (subst (λ (t : List ℕ). Once t) (sym new) (m .once)) in
     let same : length l < cap → own ≡ all = λ few.
-    determined setBits own all (is-rising setBits l) (listed-rises near n) within
-    (λ x h. ascending-has setBits x l (subst (Stands x) (sym new) (m .all few x (listed-max near n (g .apart) x h)))) in
+    determined setBits own all (is-strict setBits l) (listed-rises adjacent n) within
+    (λ x h. ascending-has setBits x l (subst (Member x) (sym new) (m .all few x (listed-max adjacent n (g .apart) x h)))) in
     record {
       count = bool-cases (ltb (length l) cap)
           (λ t. let few = ltb-true (length l) cap t in let e = ap length (same few) in omega arith)
@@ -56,7 +56,7 @@ counted near n g cap l pos full m =
     }
 
 pub none-found : (neighbours : List ℕ) (n : ℕ) (list : List ℕ) → n ≡ 0 → AllSets neighbours n list 0
-unfolding maximalSets keep subsets isComplementing allBelow
+unfolding maximalSets filter subsets isComplementing allBelow
 none-found neighbours n list e = subst (λ (m : ℕ). AllSets neighbours m list 0) (sym e) (record { counts = refl; lists = λ h. refl })
 
 -- all n rows
@@ -79,24 +79,24 @@ module _ (neighbours : List ℕ) (n : ℕ) (g : Graph neighbours n) where
     held = length-take-le found list fits
 
     -- a maximal set of some rows is not empty
-    filled : (x : ℕ) → Max (near neighbours) (rowsBelow n) x → (k : ℕ) × In x k
+    filled : (x : ℕ) → Max (adjacent neighbours) (rowsBelow n) x → (k : ℕ) × In x k
     filled x m =
         bool-cases (eqb x 0)
         (λ t. absurd (m .full 0 (below-in n 0 pos) (λ k h. absurd (clash h (ap (λ (y : ℕ). has y k) (eqb-true x 0 t) ∙ has-none k)))))
         (λ t. some x (eqb-false x 0 t))
 
-    adds : Adds (Max (near neighbours) (rowsBelow n)) (suc maxSets) [] (take found list)
+    adds : Adds (Max (adjacent neighbours) (rowsBelow n)) (suc maxSets) [] (take found list)
     adds =
-        adds-same (suc maxSets) (Filled (rowOf neighbours) n (simple neighbours n g) all) (Max (near neighbours) (rowsBelow n))
+        adds-same (suc maxSets) (Filled (rowOf neighbours) n (simple neighbours n g) all) (Max (adjacent neighbours) (rowsBelow n))
         (λ x p. rw ea at (p .0))
         (λ x m. (rw ea m, filled x m))
         (parts-adds (rowOf neighbours) n (simple neighbours n g) (suc maxSets) width bits-fit (l .1) (λ k h. below-of n k (rw ea at h)))
 
-    result : Counted (near neighbours) n (suc maxSets) (take found list)
-    result = counted (near neighbours) n (simple neighbours n g) (suc maxSets) (take found list) pos (omega (arith, held)) adds
+    result : Counted (adjacent neighbours) n (suc maxSets) (take found list)
+    result = counted (adjacent neighbours) n (simple neighbours n g) (suc maxSets) (take found list) pos (omega (arith, held)) adds
 
-    pub number : found ≡ min (suc maxSets) (length (maximalSets (near neighbours) n))
-    number = sym held ∙ result .count ∙ ap (min (suc maxSets)) (length-map (maximalSets (near neighbours) n) bits)
+    pub number : found ≡ min (suc maxSets) (length (maximalSets (adjacent neighbours) n))
+    number = sym held ∙ result .count ∙ ap (min (suc maxSets)) (length-map (maximalSets (adjacent neighbours) n) bits)
 
     -- more than are listed
     pub many-found : maxSets < found → AllSets neighbours n list found
@@ -106,7 +106,7 @@ module _ (neighbours : List ℕ) (n : ℕ) (g : Graph neighbours n) where
     pub all-found : found ≤ maxSets → (out : List ℕ) (r : ℕ) → r ≤ length out → take r out ≡ ascending compareBits (take found list)
         → AllSets neighbours n out r
     all-found small out r room o =
-        let whole : take r out ≡ map bits (maximalSets (near neighbours) n) = o ∙ result .sets (omega (arith, held)) in
-        let own : r ≡ length (maximalSets (near neighbours) n) =
-        sym (length-take-le r out room) ∙ ap length whole ∙ length-map (maximalSets (near neighbours) n) bits in
+        let whole : take r out ≡ map bits (maximalSets (adjacent neighbours) n) = o ∙ result .sets (omega (arith, held)) in
+        let own : r ≡ length (maximalSets (adjacent neighbours) n) =
+        sym (length-take-le r out room) ∙ ap length whole ∙ length-map (maximalSets (adjacent neighbours) n) bits in
         record { counts = omega (arith, number); lists = λ h. whole }

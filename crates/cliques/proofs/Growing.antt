@@ -9,7 +9,7 @@ use borrow.Author.Tests.{eqb-true, eqb-false}
 use Rattle.definitions.proofs.Bools.{bool-cases, clash, not-so}
 use Rattle.bitsets.specs.Bits.{has, both, either, butNot, isSub, withRow, lowest, Inside, Sub}
 use Rattle.bitsets.proofs.Bits.{In, has-none, has-with-self, has-with-old, has-with-cases, both-in, both-l, both-r, either-l, either-r, either-cases, but-in, but-l, but-out, at-lowest, lowest-inside, sub-true, sub-less}
-use Rattle.cliques.specs.Search.{adjacent}
+use Rattle.cliques.specs.Search.{adjacentBy}
 use Rattle.cliques.specs.Parts.{Part, Common}
 
 -- the first of some of n rows
@@ -37,7 +37,7 @@ module _ (N : ℕ → ℕ) (rows : ℕ) where
       })
 
   module _ (part ahead : ℕ) (g : Growing N rows part ahead) where
-    pub grow-end : ahead ≡ 0 → Part (adjacent N) rows part
+    pub grow-end : ahead ≡ 0 → Part (adjacentBy N) rows part
     grow-end e =
         let none : (k : ℕ) → In ahead k → In part k = λ k h. absurd (clash h (ap (λ (x : ℕ). has x k) e ∙ has-none k)) in
         record {
@@ -92,16 +92,16 @@ module _ (N : ℕ → ℕ) (rows : ℕ) where
 -- ---- the rows that complement all others
 
 module _ (N : ℕ → ℕ) (part : ℕ) where
-  pub common-none : Common (adjacent N) part 0
+  pub common-none : Common (adjacentBy N) part 0
   common-none = record { within = λ k h. absurd (clash h (has-none k)); all = λ j k h r ne. absurd (clash h (has-none j)) }
 
-  pub common-more : (common row with more : ℕ) → Common (adjacent N) part common → In part row → with ≡ withRow (N row) row → isSub part with ≡ true
-      → more ≡ withRow common row → Common (adjacent N) part more
+  pub common-more : (common row with more : ℕ) → Common (adjacentBy N) part common → In part row → with ≡ withRow (N row) row → isSub part with ≡ true
+      → more ≡ withRow common row → Common (adjacentBy N) part more
   common-more common row with more c there ew s em =
-      let near : (k : ℕ) → In part k → (row ≡ k → ⊥) → In (N row) k =
+      let adjacent : (k : ℕ) → In part k → (row ≡ k → ⊥) → In (N row) k =
       λ k h ne. has-with-cases (N row) row k (sub-true part (withRow (N row) row) (rw ew at s) k h) (λ p. p) (λ p. absurd (ne (sym p))) in
       rw em (record {
         within = λ k h. has-with-cases common row k h (c .within k) (λ p. rw p there);
         all = λ j k h r ne. has-with-cases common row j h (λ p. c .all j k p r ne)
-            (λ p. subst (λ (x : ℕ). In (N x) k) (sym p) (near k r (λ q. ne (p ∙ q))));
+            (λ p. subst (λ (x : ℕ). In (N x) k) (sym p) (adjacent k r (λ q. ne (p ∙ q))));
       })

@@ -6,7 +6,7 @@ use Prim.Native.Nat.{ℕ, zero, suc, _<_}
 use native.Mathlib.Nat.{not-suc-le-zero, le-of-suc-le-suc}
 use native.Mathlib.Omega.{arith}
 use lib.ListN.{length}
-use Rattle.definitions.specs.ComplementUnion.{marked}
+use Rattle.definitions.specs.ComplementUnion.{contains}
 use Rattle.definitions.proofs.Sets.{Holds, holds-within}
 
 unfoldable pub marks : ℕ → (ℕ → Bool) → List Bool
@@ -18,8 +18,8 @@ unfolding marks
 marks-length zero p = refl
 marks-length (suc n) p = ap suc (marks-length n (λ k. p (suc k)))
 
-pub marks-at : (n : ℕ) (p : ℕ → Bool) (k : ℕ) → k < n → marked (marks n p) k ≡ p k
-unfolding marks marked
+pub marks-at : (n : ℕ) (p : ℕ → Bool) (k : ℕ) → k < n → contains (marks n p) k ≡ p k
+unfolding marks contains
 marks-at zero p k h = absurd (not-suc-le-zero h)
 marks-at (suc n) p zero h = refl
 marks-at (suc n) p (suc k) h = marks-at n (λ j. p (suc j)) k (le-of-suc-le-suc h)

@@ -12,14 +12,14 @@ use borrow.Author.Tests.{eqb-true, eqb-false, eq-eqb}
 use Rattle.definitions.proofs.Bools.{bool-cases, clash, not-so, and-l, and-r, and-i}
 use Rattle.definitions.proofs.Lists.{below-cases}
 use Rattle.bitsets.specs.Bits.{has, both, isSub, withRow, onlyOne, lowest, Inside, Sub}
-use Rattle.cliques.specs.Maximal.{NearAll, Clique, Max}
-use Rattle.cliques.specs.Search.{adjacent, kept, taken, MayTake}
+use Rattle.cliques.specs.Maximal.{AdjacentToAll, Clique, Max}
+use Rattle.cliques.specs.Search.{adjacentBy, kept, taken, MayTake}
 use Rattle.bitsets.proofs.Bits.{In, has-with-self, has-with-old, has-with-cases, same-set, both-in, both-l, both-r, sub-same, sub-true, sub-of, is-lowest, only-one-some, only-one-in, only-one-out}
 
 -- complementing among n rows
-pub record Simple (near : ℕ → ℕ → Bool) (n : ℕ) : Type 0 where
-  pub symmetric : (j k : ℕ) → j < n → k < n → near j k ≡ near k j
-  pub apart : (j : ℕ) → j < n → near j j ≡ false
+pub record Simple (adjacent : ℕ → ℕ → Bool) (n : ℕ) : Type 0 where
+  pub symmetric : (j k : ℕ) → j < n → k < n → adjacent j k ≡ adjacent k j
+  pub apart : (j : ℕ) → j < n → adjacent j j ≡ false
 
 -- a step of the search, from a set of the decided rows to one of these and row i
 pub data Step (N : ℕ → ℕ) (d i set next : ℕ) : Type 0 where
@@ -76,8 +76,8 @@ module _ (N : ℕ → ℕ) (d : ℕ) where
   complete-inside : (set i : ℕ) → Sub set d → Sub (complete set i) d
   complete-inside set i s k h = ⊎-elim (λ p. s k p) (λ p. p .0) (complete-new set i k h)
 
-  module _ (n : ℕ) (g : Simple (adjacent N) n) (inside : Inside d n) where
-    complete-clique : (set i : ℕ) → Sub set d → Clique (adjacent N) set → Clique (adjacent N) (complete set i)
+  module _ (n : ℕ) (g : Simple (adjacentBy N) n) (inside : Inside d n) where
+    complete-clique : (set i : ℕ) → Sub set d → Clique (adjacentBy N) set → Clique (adjacentBy N) (complete set i)
     unfolding complete
     complete-clique set zero s f j k hj hk ne = f j k hj hk ne
     complete-clique set (suc i) s f j k hj hk ne =
@@ -90,33 +90,33 @@ module _ (N : ℕ → ℕ) (d : ℕ) where
         (λ r _ _. absurd (ne (p ∙ sym r))))
 
     -- a row of d that is not in was not to be added: it does not complement the set and what was added before it
-    complete-first : (set j : ℕ) → Sub set d → In d j → has (complete set n) j ≡ false → NearAll (adjacent N) set j
+    complete-first : (set j : ℕ) → Sub set d → In d j → has (complete set n) j ≡ false → AdjacentToAll (adjacentBy N) set j
         → ((k : ℕ) → In (complete set n) k → k < j → In (N j) k) → ⊥
-    complete-first set j s p out near before =
+    complete-first set j s p out adjacent before =
         let lt : j < n = inside j p in
         let sub : isSub (complete set j) (N j) ≡ true =
         sub-of (complete set j) (N j)
-        (λ k h. ⊎-elim (near k) (λ q. before k (complete-later set j n k (omega arith) h) (q .1)) (complete-new set j k h)) in
+        (λ k h. ⊎-elim (adjacent k) (λ q. before k (complete-later set j n k (omega arith) h) (q .1)) (complete-new set j k h)) in
         clash (complete-later set (suc j) n j lt (complete-adds set j p sub)) out
 
     -- a set of complementing rows is completed to a maximal one
-    complete-max : (set : ℕ) → Sub set d → Clique (adjacent N) set → Max (adjacent N) d (complete set n)
+    complete-max : (set : ℕ) → Sub set d → Clique (adjacentBy N) set → Max (adjacentBy N) d (complete set n)
     complete-max set s f = record {
       inside = complete-inside set n s;
       clique = complete-clique set n s f;
-      full = λ j p near. bool-cases (has (complete set n) j)
-          (λ t. clash (near j t) (g .apart j (inside j p)))
-          (λ t. complete-first set j s p t (λ k h. near k (complete-keeps set n k h)) (λ k h _. near k h));
+      full = λ j p adjacent. bool-cases (has (complete set n) j)
+          (λ t. clash (adjacent j t) (g .apart j (inside j p)))
+          (λ t. complete-first set j s p t (λ k h. adjacent k (complete-keeps set n k h)) (λ k h _. adjacent k h));
     }
 
-module _ (N : ℕ → ℕ) (n : ℕ) (g : Simple (adjacent N) n) (d : ℕ) (inside : Inside d n) (i : ℕ) (lt : i < n) (new : has d i ≡ false) where
+module _ (N : ℕ → ℕ) (n : ℕ) (g : Simple (adjacentBy N) n) (d : ℕ) (inside : Inside d n) (i : ℕ) (lt : i < n) (new : has d i ≡ false) where
   -- the set with row i, and row i beside rows of d
   not-own : (k : ℕ) → In d k → k ≡ i → ⊥
   not-own k h e = clash h (ap (has d) e ∙ new)
 
   -- ---- a step keeps a set maximal
 
-  leave-max : (set : ℕ) → Max (adjacent N) d set → isSub set (N i) ≡ false → Max (adjacent N) (withRow d i) set
+  leave-max : (set : ℕ) → Max (adjacentBy N) d set → isSub set (N i) ≡ false → Max (adjacentBy N) (withRow d i) set
   leave-max set m e = record {
     inside = λ k h. has-with-old d i k (m .inside k h);
     clique = m .clique;
@@ -125,16 +125,16 @@ module _ (N : ℕ → ℕ) (n : ℕ) (g : Simple (adjacent N) n) (d : ℕ) (insi
   }
 
   -- row i, beside a part of a maximal set
-  row-max : (set part : ℕ) → Max (adjacent N) d set → Sub part set → Sub part (N i)
-      → ((j : ℕ) → In d j → NearAll (adjacent N) (withRow part i) j → ⊥) → Max (adjacent N) (withRow d i) (withRow part i)
-  row-max set part m sub near full = record {
+  row-max : (set part : ℕ) → Max (adjacentBy N) d set → Sub part set → Sub part (N i)
+      → ((j : ℕ) → In d j → AdjacentToAll (adjacentBy N) (withRow part i) j → ⊥) → Max (adjacentBy N) (withRow d i) (withRow part i)
+  row-max set part m sub adjacent full = record {
     inside = λ k h. has-with-cases part i k h (λ r. has-with-old d i k (m .inside k (sub k r)))
         (λ p. subst (λ (x : ℕ). In (withRow d i) x) (sym p) (has-with-self d i));
     clique = λ j k hj hk ne.
         has-with-cases part i j hj
         (λ rj. has-with-cases part i k hk (λ rk. m .clique j k (sub j rj) (sub k rk) ne)
-        (λ p. subst (λ (x : ℕ). In (N j) x) (sym p) (g .symmetric j i (inside j (m .inside j (sub j rj))) lt ∙ near j rj)))
-        (λ p. has-with-cases part i k hk (λ rk. subst (λ (x : ℕ). In (N x) k) (sym p) (near k rk)) (λ q. absurd (ne (p ∙ sym q))));
+        (λ p. subst (λ (x : ℕ). In (N j) x) (sym p) (g .symmetric j i (inside j (m .inside j (sub j rj))) lt ∙ adjacent j rj)))
+        (λ p. has-with-cases part i k hk (λ rk. subst (λ (x : ℕ). In (N x) k) (sym p) (adjacent k rk)) (λ q. absurd (ne (p ∙ sym q))));
     full = λ j h f. has-with-cases d i j h (λ r. full j r f)
         (λ p. clash (f i (has-with-self part i)) (subst (λ (x : ℕ). has (N x) i ≡ false) (sym p) (g .apart i lt)));
   }
@@ -143,13 +143,13 @@ module _ (N : ℕ → ℕ) (n : ℕ) (g : Simple (adjacent N) n) (d : ℕ) (insi
   back : (j : ℕ) → In d j → In (N j) i → In (N i) j
   back j h r = g .symmetric i j lt (inside j h) ∙ r
 
-  pub step-max : (set next : ℕ) → Max (adjacent N) d set → Step N d i set next → Max (adjacent N) (withRow d i) next
+  pub step-max : (set next : ℕ) → Max (adjacentBy N) d set → Step N d i set next → Max (adjacentBy N) (withRow d i) next
   step-max set next m (joined s e) =
-      subst (Max (adjacent N) (withRow d i)) e
+      subst (Max (adjacentBy N) (withRow d i)) e
       (row-max set set m (λ k h. h) (sub-true set (N i) s) (λ j h f. m .full j h (λ k r. f k (has-with-old set i k r))))
-  step-max set next m (left s e) = subst (Max (adjacent N) (withRow d i)) e (leave-max set m s)
+  step-max set next m (left s e) = subst (Max (adjacentBy N) (withRow d i)) e (leave-max set m s)
   step-max set next m (took s t e) =
-      subst (Max (adjacent N) (withRow d i)) e
+      subst (Max (adjacentBy N) (withRow d i)) e
       (row-max set (kept N set i) m (both-l set (N i)) (both-r set (N i))
       (λ j h f. t .maximal j h (λ k r. f k (has-with-old (kept N set i) i k r)) (back j h (f i (has-with-self (kept N set i) i)))))
 
@@ -157,10 +157,10 @@ module _ (N : ℕ → ℕ) (n : ℕ) (g : Simple (adjacent N) n) (d : ℕ) (insi
 
   pub record Parent (next : ℕ) : Type 0 where
     pub set : ℕ
-    pub maximal : Max (adjacent N) d set
+    pub maximal : Max (adjacentBy N) d set
     pub step : Step N d i set next
 
-  module _ (next : ℕ) (m : Max (adjacent N) (withRow d i) next) where
+  module _ (next : ℕ) (m : Max (adjacentBy N) (withRow d i) next) where
     without : has next i ≡ false → Parent next
     without h = record {
       set = next;
@@ -183,7 +183,7 @@ module _ (N : ℕ → ℕ) (n : ℕ) (g : Simple (adjacent N) n) (d : ℕ) (insi
     abbrev up : ℕ
     up = complete N d rest n
 
-    up-max : Max (adjacent N) d up
+    up-max : Max (adjacentBy N) d up
     up-max = complete-max N d n g inside rest rest-inside (λ j k hj hk ne. m .clique j k (both-l next (N i) j hj) (both-l next (N i) k hk) ne)
 
     module _ (h : In next i) where
@@ -191,24 +191,24 @@ module _ (N : ℕ → ℕ) (n : ℕ) (g : Simple (adjacent N) n) (d : ℕ) (insi
       rest-of k r ne = both-in next (N i) k r (m .clique i k h r (λ e. ne (sym e)))
 
       -- no decided row complements what is left of `next`, and row i
-      none-near : (j : ℕ) → In d j → NearAll (adjacent N) rest j → In (N i) j → ⊥
-      none-near j p near r =
+      none-adjacent : (j : ℕ) → In d j → AdjacentToAll (adjacentBy N) rest j → In (N i) j → ⊥
+      none-adjacent j p adjacent r =
           m .full j (has-with-old d i j p)
           (λ k x. bool-cases (eqb k i)
           (λ q. subst (λ (y : ℕ). In (N j) y) (sym (eqb-true k i q)) (g .symmetric j i (inside j p) lt ∙ r))
-          (λ q. near k (rest-of k x (eqb-false k i q))))
+          (λ q. adjacent k (rest-of k x (eqb-false k i q))))
 
       -- of what was completed, only members of `next` complement i
-      up-near : (k : ℕ) → In up k → In (N i) k → In rest k
-      up-near k u r =
+      up-adjacent : (k : ℕ) → In up k → In (N i) k → In rest k
+      up-adjacent k u r =
           bool-cases (has rest k) (λ p. p)
-          (λ p. absurd (none-near k (up-max .inside k u)
+          (λ p. absurd (none-adjacent k (up-max .inside k u)
           (λ j x. up-max .clique k j u (complete-keeps N d rest n j x) (λ e. clash x (ap (has rest) (sym e) ∙ p))) r))
 
       up-kept : kept N up i ≡ rest
       up-kept =
           same-set (kept N up i) rest
-          (λ k p. up-near k (both-l up (N i) k p) (both-r up (N i) k p))
+          (λ k p. up-adjacent k (both-l up (N i) k p) (both-r up (N i) k p))
           (λ k p. both-in up (N i) k (complete-keeps N d rest n k p) (both-r next (N i) k p))
 
       with-rest : withRow rest i ≡ next
@@ -219,13 +219,13 @@ module _ (N : ℕ → ℕ) (n : ℕ) (g : Simple (adjacent N) n) (d : ℕ) (insi
           (λ q. ap (has (withRow rest i)) (eqb-true k i q) ∙ has-with-self rest i)
           (λ q. has-with-old rest i k (rest-of k p (eqb-false k i q))))
 
-      to-rest : (j : ℕ) → NearAll (adjacent N) (kept N up i) j → NearAll (adjacent N) rest j
-      to-rest j near k x = near k (ap (λ (y : ℕ). has y k) up-kept ∙ x)
+      to-rest : (j : ℕ) → AdjacentToAll (adjacentBy N) (kept N up i) j → AdjacentToAll (adjacentBy N) rest j
+      to-rest j adjacent k x = adjacent k (ap (λ (y : ℕ). has y k) up-kept ∙ x)
 
       up-may : MayTake N d up i
       up-may = record {
-        maximal = λ j p near r. none-near j p (to-rest j near) r;
-        first = λ j p out near before. complete-first N d n g inside rest j rest-inside p out (to-rest j near) before;
+        maximal = λ j p adjacent r. none-adjacent j p (to-rest j adjacent) r;
+        first = λ j p out adjacent before. complete-first N d n g inside rest j rest-inside p out (to-rest j adjacent) before;
       }
 
       up-taken : taken N up i ≡ next
@@ -247,7 +247,7 @@ module _ (N : ℕ → ℕ) (n : ℕ) (g : Simple (adjacent N) n) (d : ℕ) (insi
 
   -- no row that is not in the set complements what is kept and the rows of the set before it
   abbrev First : ℕ → Type 0
-  First set = (j : ℕ) → In d j → has set j ≡ false → NearAll (adjacent N) (kept N set i) j → ((k : ℕ) → In set k → k < j → In (N j) k) → ⊥
+  First set = (j : ℕ) → In d j → has set j ≡ false → AdjacentToAll (adjacentBy N) (kept N set i) j → ((k : ℕ) → In set k → k < j → In (N j) k) → ⊥
 
   -- how a set came to be: row i was left, or it was taken
   data Origin (set next : ℕ) : Type 0 where
@@ -257,22 +257,22 @@ module _ (N : ℕ → ℕ) (n : ℕ) (g : Simple (adjacent N) n) (d : ℕ) (insi
   own : (set next : ℕ) → taken N set i ≡ next → In next i
   own set next e = subst (λ (x : ℕ). In x i) e (has-with-self (kept N set i) i)
 
-  origin : (set next : ℕ) → Max (adjacent N) d set → Step N d i set next → Origin set next
+  origin : (set next : ℕ) → Max (adjacentBy N) d set → Step N d i set next → Origin set next
   origin set next m (joined s e) =
       let same : kept N set i ≡ set = sub-same set (N i) s in
       let to : taken N set i ≡ next = ap (λ (x : ℕ). withRow x i) same ∙ e in
-      grew (own set next to) to (λ j p out near before. m .full j p (λ k h. near k (ap (λ (x : ℕ). has x k) same ∙ h)))
+      grew (own set next to) to (λ j p out adjacent before. m .full j p (λ k h. adjacent k (ap (λ (x : ℕ). has x k) same ∙ h)))
   origin set next m (left s e) = stayed (not-so (has next i) (λ h. not-own i (m .inside i (ap (λ (x : ℕ). has x i) e ∙ h)) refl)) e
   origin set next m (took s t e) = grew (own set next e) e (t .first)
 
   -- the members of what one set keeps are kept by the other
-  half : (b c : ℕ) → Max (adjacent N) d b → taken N b i ≡ taken N c i → Sub (kept N b i) (kept N c i)
+  half : (b c : ℕ) → Max (adjacentBy N) d b → taken N b i ≡ taken N c i → Sub (kept N b i) (kept N c i)
   half b c m e k h =
       has-with-cases (kept N c i) i k (ap (λ (x : ℕ). has x k) (sym e) ∙ has-with-old (kept N b i) i k h) (λ p. p)
       (λ p. absurd (not-own k (m .inside k (both-l b (N i) k h)) p))
 
   -- a position that is in one of two such sets and not in the other, where they agree below
-  differ : (b c : ℕ) → Max (adjacent N) d b → Sub (kept N c i) (kept N b i) → First c → (j : ℕ) → In b j → has c j ≡ false
+  differ : (b c : ℕ) → Max (adjacentBy N) d b → Sub (kept N c i) (kept N b i) → First c → (j : ℕ) → In b j → has c j ≡ false
       → ((k : ℕ) → k < j → has b k ≡ has c k) → ⊥
   differ b c m sub first j hb hc below =
       let other : (k : ℕ) → In c k → j ≡ k → ⊥ = λ k h e. clash h (ap (has c) (sym e) ∙ hc) in
@@ -280,7 +280,7 @@ module _ (N : ℕ → ℕ) (n : ℕ) (g : Simple (adjacent N) n) (d : ℕ) (insi
       (λ k h. m .clique j k hb (both-l b (N i) k (sub k h)) (other k (both-l c (N i) k h)))
       (λ k h l. m .clique j k hb (below k l ∙ h) (other k h))
 
-  one-grown : (b c : ℕ) → Max (adjacent N) d b → Max (adjacent N) d c → taken N b i ≡ taken N c i → First b → First c → b ≡ c
+  one-grown : (b c : ℕ) → Max (adjacentBy N) d b → Max (adjacentBy N) d c → taken N b i ≡ taken N c i → First b → First c → b ≡ c
   one-grown b c mb mc e fb fc =
       bool-cases (eqb b c) (eqb-true b c)
       (λ t.
@@ -292,11 +292,11 @@ module _ (N : ℕ → ℕ) (n : ℕ) (g : Simple (adjacent N) n) (d : ℕ) (insi
       (λ p. differ b c mb (half c b mc (sym e)) fc j p (other ∙ ap not p) below)
       (λ p. differ c b mc (half b c mb e) fb j (other ∙ ap not p) p (λ k l. sym (below k l)))))
 
-  by-origin : (b c next : ℕ) → Max (adjacent N) d b → Max (adjacent N) d c → Origin b next → Origin c next → b ≡ c
+  by-origin : (b c next : ℕ) → Max (adjacentBy N) d b → Max (adjacentBy N) d c → Origin b next → Origin c next → b ≡ c
   by-origin b c next mb mc (stayed h e) (stayed h2 e2) = e ∙ sym e2
   by-origin b c next mb mc (stayed h e) (grew h2 e2 f2) = absurd (clash h2 h)
   by-origin b c next mb mc (grew h e f) (stayed h2 e2) = absurd (clash h h2)
   by-origin b c next mb mc (grew h e f) (grew h2 e2 f2) = one-grown b c mb mc (e ∙ sym e2) f f2
 
-  pub one-parent : (b c next : ℕ) → Max (adjacent N) d b → Max (adjacent N) d c → Step N d i b next → Step N d i c next → b ≡ c
+  pub one-parent : (b c next : ℕ) → Max (adjacentBy N) d b → Max (adjacentBy N) d c → Step N d i b next → Step N d i c next → b ≡ c
   one-parent b c next mb mc s t = by-origin b c next mb mc (origin b next mb s) (origin c next mc t)

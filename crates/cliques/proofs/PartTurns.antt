@@ -9,8 +9,8 @@ use lib.Seq.{length-take-le, take-add, take-at, drop-at}
 use Rattle.definitions.proofs.Bools.{clash, not-so}
 use Rattle.bitsets.specs.Bits.{has, butNot, either, Inside, Sub, sizeBelow}
 use Rattle.bitsets.proofs.Bits.{has-none, but-l, but-out, sub-less}
-use Rattle.cliques.specs.Graph.{near}
-use Rattle.cliques.specs.Search.{rowOf, adjacent, Run, stops, lists, joins, leaves, takes, Ran, Ready}
+use Rattle.cliques.specs.Graph.{adjacent}
+use Rattle.cliques.specs.Search.{rowOf, adjacentBy, Run, stops, lists, joins, leaves, takes, Ran, Ready}
 use Rattle.cliques.specs.Parts.{Part, Common, Parts, ends, fills, next, Listed, RowsOf, Searched}
 use Rattle.cliques.proofs.Run.{none-max}
 use Rattle.cliques.proofs.Turns.{simple}
@@ -34,7 +34,7 @@ pub part-rows : {width : ℕ} {neighbours : List ℕ} {rows : ℕ} → RowsOf wi
 part-rows r part s = record { n = r .n; graph = r .graph; bits = r .bits; inside = λ k h. r .inside k (s k h) }
 
 module _ (cap : ℕ) {width : ℕ} {neighbours : List ℕ} {part : ℕ} (r : RowsOf width neighbours part) where
-  module _ (common core : ℕ) (c : Common (near neighbours) part common) (e : core ≡ butNot part common) where
+  module _ (common core : ℕ) (c : Common (adjacent neighbours) part common) (e : core ≡ butNot part common) where
     core-inside : Inside core (r .n)
     core-inside k h = r .inside k (but-l part common k (rw e at h))
 
@@ -125,7 +125,7 @@ module _ (N : ℕ → ℕ) (cap n rows : ℕ) where
     pub continue-full : cap ≤ length l → Listed N cap n rows [] l
     continue-full h = c l 0 (fills h)
 
-    pub continue-part : length l < cap → (part left : ℕ) → Part (adjacent N) rest part → left ≡ butNot rest part → (out : List ℕ)
+    pub continue-part : length l < cap → (part left : ℕ) → Part (adjacentBy N) rest part → left ≡ butNot rest part → (out : List ℕ)
         → Searched N cap n part l out → Continues N cap n rows left out
     continue-part few part left p e out s end more q =
         c end (s .calls + more)
@@ -134,8 +134,8 @@ module _ (N : ℕ → ℕ) (cap n rows : ℕ) where
         (subst (λ (x : List ℕ). Parts N cap n left x end more) (s .sets) q)))
 
 -- fewer rows are left
-pub part-less : (near : _) (rest part left : ℕ) → Part near rest part → left ≡ butNot rest part → left < rest
-part-less near rest part left p e =
+pub part-less : (adjacent : _) (rest part left : ℕ) → Part adjacent rest part → left ≡ butNot rest part → left < rest
+part-less adjacent rest part left p e =
     rw e (sub-less (butNot rest part) rest (p .row) (but-l rest part) (p .within (p .row) (p .there))
     (not-so (has (butNot rest part) (p .row)) (λ h. clash (p .there) (but-out rest part (p .row) h))))
 

@@ -14,7 +14,7 @@ use Rattle.bitsets.specs.Bits.{has, isSub, withRow, Inside, lowest, withoutLowe
 use Rattle.bitsets.proofs.Bits.{In, Lowest, at-lowest, has-none, has-ext, has-with-self, has-with-old, has-with-cases, same-set, rest-in, rest-of, rest-out, rest-inside}
 use Rattle.bitsets.proofs.Sizes.{size-none, size-next, size-zero}
 use Rattle.cliques.specs.Maximal.{Max, Adds}
-use Rattle.cliques.specs.Search.{adjacent, kept, taken, MayTake, Split, Run, stops, lists, joins, leaves, takes}
+use Rattle.cliques.specs.Search.{adjacentBy, kept, taken, MayTake, Split, Run, stops, lists, joins, leaves, takes}
 use Rattle.cliques.proofs.Maximal.{Simple, Step, joined, left, took, step-max, Parent, parent, one-parent}
 use Rattle.cliques.proofs.Adds.{adds-none, adds-one, adds-same, adds-both}
 
@@ -62,9 +62,9 @@ abbrev pub Reach : (ℕ → ℕ) → ℕ → ℕ → ℕ → ℕ → ℕ → Typ
 Reach N x zero d rest set = set ≡ x
 Reach N x (suc f) d rest set = (next : ℕ) × Step N d (lowest rest) set next × Reach N x f (withRow d (lowest rest)) (withoutLowest rest) next
 
-module _ (N : ℕ → ℕ) (n width : ℕ) (g : Simple (adjacent N) n) where
+module _ (N : ℕ → ℕ) (n width : ℕ) (g : Simple (adjacentBy N) n) where
   abbrev M : ℕ → ℕ → Type 0
-  M = Max (adjacent N)
+  M = Max (adjacentBy N)
 
   module _ {f d rest : ℕ} (s : Split n width d rest (suc f)) where
     some : suc f ≡ 0 → ⊥

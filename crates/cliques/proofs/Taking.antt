@@ -11,15 +11,15 @@ use borrow.Author.Tests.{eqb-true, eqb-false, ltb-true, ltb-false}
 use Rattle.definitions.proofs.Bools.{bool-cases, clash, not-so}
 use Rattle.bitsets.specs.Bits.{has, both, lowest, withoutLowest, Inside, Sub}
 use Rattle.bitsets.proofs.Bits.{In, Lowest, some, has-none, both-in, both-l, both-r, at-lowest, rest-in, rest-of, rest-out}
-use Rattle.cliques.specs.Graph.{near, Graph}
-use Rattle.cliques.specs.Maximal.{NearAll, Clique, Max}
-use Rattle.cliques.specs.Search.{rowOf, adjacent, kept, MayTake, Asked, Free, Met, GrowsBack, Told}
+use Rattle.cliques.specs.Graph.{adjacent, Graph}
+use Rattle.cliques.specs.Maximal.{AdjacentToAll, Clique, Max}
+use Rattle.cliques.specs.Search.{rowOf, adjacentBy, kept, MayTake, Asked, Free, Met, GrowsBack, Told}
 use Rattle.cliques.proofs.Maximal.{Simple}
 
 -- ---- the rows that complement each row of a set, row by row
 
 module _ (N : ℕ → ℕ) where
-  pub free-none : (set word : ℕ) → set ≡ 0 → Free (adjacent N) set word word
+  pub free-none : (set word : ℕ) → set ≡ 0 → Free (adjacentBy N) set word word
   free-none set word e =
       record { within = λ k h. h; each = λ j k hj hk. absurd (clash hj (ap (λ (x : ℕ). has x j) e ∙ has-none j)); all = λ k h f. h }
 
@@ -27,7 +27,7 @@ module _ (N : ℕ → ℕ) where
     low : Lowest rest k
     low = at-lowest rest k pos ek
 
-    free-step : (r : ℕ) → Free (adjacent N) (withoutLowest rest) (both word (N k)) r → Free (adjacent N) rest word r
+    free-step : (r : ℕ) → Free (adjacentBy N) (withoutLowest rest) (both word (N k)) r → Free (adjacentBy N) rest word r
     free-step r c = record {
       within = λ j h. both-l word (N k) j (c .within j h);
       each = λ i j hi hj. bool-cases (eqb i k)
@@ -36,24 +36,24 @@ module _ (N : ℕ → ℕ) where
       all = λ j h f. c .all j (both-in word (N k) j h (f k (low .there))) (λ i hi. f i (rest-in rest i hi));
     }
 
-    pub free-turn : (r : ℕ) → Free (adjacent N) less more r → Free (adjacent N) rest word r
-    free-turn r c = free-step r (subst (λ (x : ℕ). Free (adjacent N) x (both word (N k)) r) er (subst (λ (x : ℕ). Free (adjacent N) less x r) ew c))
+    pub free-turn : (r : ℕ) → Free (adjacentBy N) less more r → Free (adjacentBy N) rest word r
+    free-turn r c = free-step r (subst (λ (x : ℕ). Free (adjacentBy N) x (both word (N k)) r) er (subst (λ (x : ℕ). Free (adjacentBy N) less x r) ew c))
 
 -- ---- the free rows in ascending order
 
 -- so far only members of the set were met: no row is lost that complements each member before it, and a member that was met complements
 -- each row that is left
-pub record Walk (near : ℕ → ℕ → Bool) (free set rest : ℕ) : Type 0 where
+pub record Walk (adjacent : ℕ → ℕ → Bool) (free set rest : ℕ) : Type 0 where
   pub within : Sub rest free
-  pub ahead : (j : ℕ) → In free j → has set j ≡ false → ((k : ℕ) → In free k → In set k → k < j → near k j ≡ true) → In rest j
-  pub passed : (m k : ℕ) → In free m → In set m → has rest m ≡ false → In rest k → near m k ≡ true
+  pub ahead : (j : ℕ) → In free j → has set j ≡ false → ((k : ℕ) → In free k → In set k → k < j → adjacent k j ≡ true) → In rest j
+  pub passed : (m k : ℕ) → In free m → In set m → has rest m ≡ false → In rest k → adjacent m k ≡ true
 
 module _ (N : ℕ → ℕ) (free set : ℕ) where
-  pub walk-start : Walk (adjacent N) free set free
+  pub walk-start : Walk (adjacentBy N) free set free
   walk-start = record { within = λ k h. h; ahead = λ j h out f. h; passed = λ m k h s out r. absurd (clash h out) }
 
-  module _ (rest : ℕ) (w : Walk (adjacent N) free set rest) where
-    pub walk-end : rest ≡ 0 → GrowsBack (adjacent N) free set true
+  module _ (rest : ℕ) (w : Walk (adjacentBy N) free set rest) where
+    pub walk-end : rest ≡ 0 → GrowsBack (adjacentBy N) free set true
     walk-end e = record {
       yes = λ _ j h out f. clash (w .ahead j h out f) (ap (λ (x : ℕ). has x j) e ∙ has-none j);
       no = λ z. absurd (clash refl z);
@@ -64,7 +64,7 @@ module _ (N : ℕ → ℕ) (free set : ℕ) where
       first = at-lowest rest row pos e
 
       -- a row outside the set
-      pub walk-met : has set row ≡ false → GrowsBack (adjacent N) free set false
+      pub walk-met : has set row ≡ false → GrowsBack (adjacentBy N) free set false
       walk-met out = record {
         yes = λ z. absurd (clash z refl);
         no = λ _. record {
@@ -80,7 +80,7 @@ module _ (N : ℕ → ℕ) (free set : ℕ) where
       behind j h ne =
           bool-cases (ltb j row) (λ t. absurd (clash h (first .below j (ltb-true j row t)))) (λ t. let ge = ltb-false j row t in omega arith)
 
-      walk-on : Clique (adjacent N) set → In set row → Walk (adjacent N) free set (both (withoutLowest rest) (N row))
+      walk-on : Clique (adjacentBy N) set → In set row → Walk (adjacentBy N) free set (both (withoutLowest rest) (N row))
       walk-on clique there = record {
         within = λ k h. w .within k (rest-in rest k (both-l (withoutLowest rest) (N row) k h));
         ahead = λ j h out f.
@@ -96,13 +96,13 @@ module _ (N : ℕ → ℕ) (free set : ℕ) where
             (λ t. w .passed m k h s t (rest-in rest k (both-l (withoutLowest rest) (N row) k r)));
       }
 
-      pub walk-turn : Clique (adjacent N) set → In set row → (less next : ℕ) → less ≡ withoutLowest rest → next ≡ both less (N row)
-          → Walk (adjacent N) free set next
+      pub walk-turn : Clique (adjacentBy N) set → In set row → (less next : ℕ) → less ≡ withoutLowest rest → next ≡ both less (N row)
+          → Walk (adjacentBy N) free set next
       walk-turn clique there less next el en = rw (en, el) (walk-on clique there)
 
 -- what is left of the rows
-pub left : (rest less near next : ℕ) → less ≡ withoutLowest rest → next ≡ both less near → (k : ℕ) → In next k → In rest k
-left rest less near next el en k h = rest-in rest k (ap (λ (x : ℕ). has x k) (sym el) ∙ both-l less near k (ap (λ (x : ℕ). has x k) (sym en) ∙ h))
+pub left : (rest less adjacent next : ℕ) → less ≡ withoutLowest rest → next ≡ both less adjacent → (k : ℕ) → In next k → In rest k
+left rest less adjacent next el en k h = rest-in rest k (ap (λ (x : ℕ). has x k) (sym el) ∙ both-l less adjacent k (ap (λ (x : ℕ). has x k) (sym en) ∙ h))
 
 -- ---- the answer
 
@@ -122,13 +122,13 @@ module _ {width : ℕ} {neighbours : List ℕ} {decided set i : ℕ} (a : Asked 
   pub kept-inside : (rest : ℕ) → rest ≡ kept N set i → Inside rest (length neighbours)
   kept-inside rest e k h = omega (arith, own k (both-l set (N i) k (rw e at h)), a .graph .rows)
 
-  module _ (free rest : ℕ) (e : rest ≡ kept N set i) (f : Free (near neighbours) rest decided free) where
+  module _ (free rest : ℕ) (e : rest ≡ kept N set i) (f : Free (adjacent neighbours) rest decided free) where
     -- a free row complements what is kept, and a decided row that does is free
-    free-near : (j : ℕ) → In free j → NearAll (near neighbours) (kept N set i) j
-    free-near j h k p = turned k j (own k (both-l set (N i) k p)) (a .past j (f .within j h)) (f .each k j (rw e p) h)
+    free-adjacent : (j : ℕ) → In free j → AdjacentToAll (adjacent neighbours) (kept N set i) j
+    free-adjacent j h k p = turned k j (own k (both-l set (N i) k p)) (a .past j (f .within j h)) (f .each k j (rw e p) h)
 
-    near-free : (j : ℕ) → In decided j → NearAll (near neighbours) (kept N set i) j → In free j
-    near-free j h near = f .all j h (λ k p. let q = rw e at p in turned j k (a .past j h) (own k (both-l set (N i) k q)) (near k q))
+    adjacent-free : (j : ℕ) → In decided j → AdjacentToAll (adjacent neighbours) (kept N set i) j → In free j
+    adjacent-free j h adjacent = f .all j h (λ k p. let q = rw e at p in turned j k (a .past j h) (own k (both-l set (N i) k q)) (adjacent k q))
 
     pub free-inside : Inside free (length neighbours)
     free-inside k h = omega (arith, a .past k (f .within k h), a .graph .rows)
@@ -144,24 +144,24 @@ module _ {width : ℕ} {neighbours : List ℕ} {decided set i : ℕ} (a : Asked 
           let k = some r ne in
           let p : In (both free (N i)) (k .0) = ap (λ (x : ℕ). has x (k .0)) (sym er) ∙ k .1 in
           let there = both-l free (N i) (k .0) p in
-          m .maximal (k .0) (f .within (k .0) there) (free-near (k .0) there) (both-r free (N i) (k .0) p);
+          m .maximal (k .0) (f .within (k .0) there) (free-adjacent (k .0) there) (both-r free (N i) (k .0) p);
     }
 
-    pub told-walked : (r : ℕ) → r ≡ both free (N i) → r ≡ 0 → (b : Bool) → GrowsBack (near neighbours) free set b → Told (MayTake N decided set i) b
+    pub told-walked : (r : ℕ) → r ≡ both free (N i) → r ≡ 0 → (b : Bool) → GrowsBack (adjacent neighbours) free set b → Told (MayTake N decided set i) b
     told-walked r er z b back = record {
       yes = λ t. record {
-        maximal = λ j h near p. clash (both-in free (N i) j (near-free j h near) p) (ap (λ (x : ℕ). has x j) (sym er ∙ z) ∙ has-none j);
-        first = λ j h out near before. back .yes t j (near-free j h near) out
+        maximal = λ j h adjacent p. clash (both-in free (N i) j (adjacent-free j h adjacent) p) (ap (λ (x : ℕ). has x j) (sym er ∙ z) ∙ has-none j);
+        first = λ j h out adjacent before. back .yes t j (adjacent-free j h adjacent) out
             (λ k q s l. turned j k (a .past j h) (own k s) (before k s l));
       };
       no = λ t m.
           let met = back .no t in
           let j = met .row in
           let there = f .within j (met .there) in
-          m .first j there (met .outside) (free-near j (met .there))
-          (λ k s l. bool-cases (has (kept N set i) k) (free-near j (met .there) k)
+          m .first j there (met .outside) (free-adjacent j (met .there))
+          (λ k s l. bool-cases (has (kept N set i) k) (free-adjacent j (met .there) k)
           (λ out.
           let free-k : In free k =
-          near-free k (a .maximal .inside k s) (λ x p. a .maximal .clique k x s (both-l set (N i) x p) (λ q. clash p (ap (has (kept N set i)) (sym q) ∙ out))) in
+          adjacent-free k (a .maximal .inside k s) (λ x p. a .maximal .clique k x s (both-l set (N i) x p) (λ q. clash p (ap (has (kept N set i)) (sym q) ∙ out))) in
           turned k j (own k s) (a .past j there) (met .before k free-k s l)));
     }

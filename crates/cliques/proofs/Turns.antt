@@ -7,14 +7,14 @@ use native.Mathlib.Omega.{arith}
 use lib.ListN.{length, take}
 use lib.Seq.{length-take-le}
 use Rattle.bitsets.specs.Bits.{isSub, withRow, lowest, withoutLowest}
-use Rattle.cliques.specs.Graph.{near, Graph}
+use Rattle.cliques.specs.Graph.{adjacent, Graph}
 use Rattle.cliques.specs.Maximal.{Max}
-use Rattle.cliques.specs.Search.{rowOf, adjacent, taken, MayTake, Split, Run, stops, lists, joins, leaves, takes, Ran, Ready, Asked}
+use Rattle.cliques.specs.Search.{rowOf, adjacentBy, taken, MayTake, Split, Run, stops, lists, joins, leaves, takes, Ran, Ready, Asked}
 use Rattle.cliques.proofs.Maximal.{Simple, Step, joined, left, took, step-max}
 use Rattle.cliques.proofs.Run.{split-row, split-new, split-next}
 
 -- the relation that a graph's words say
-pub simple : (neighbours : List ℕ) (n : ℕ) → Graph neighbours n → Simple (adjacent (rowOf neighbours)) n
+pub simple : (neighbours : List ℕ) (n : ℕ) → Graph neighbours n → Simple (adjacentBy (rowOf neighbours)) n
 simple neighbours n g = record { symmetric = g .symmetric; apart = g .apart }
 
 -- ---- no row is decided

@@ -14,7 +14,7 @@ use Rattle.definitions.proofs.Bools.{bool-cases, clash}
 use Rattle.bitsets.specs.Bits.{butNot, either, Inside, rowsBelow, sizeBelow}
 use Rattle.bitsets.proofs.Bits.{but-l, below-of, below-in}
 use Rattle.bitsets.proofs.Sizes.{size-all, size-sub, size-parts, size-some, size-wide}
-use Rattle.cliques.specs.Graph.{near, Graph}
+use Rattle.cliques.specs.Graph.{adjacent, Graph}
 use Rattle.cliques.specs.Search.{rowOf, Run, stops, lists, joins, leaves, takes, Ready}
 use Rattle.cliques.specs.Parts.{Part, Common, Parts, ends, fills, next, Listed}
 use Rattle.cliques.proofs.Complete.{held, number}
@@ -200,11 +200,11 @@ most-calls N n h p few = omega (arith, calls-most N (suc maxSets) maxUnionRows n
 -- of what `list_parts` promises, where there are at most 1,024 maximal sets: at most n calls for each, and one more
 pub few-calls : (neighbours : List ℕ) (n : ℕ) (g : Graph neighbours n) (width : ℕ) (bits : n ≤ width) (list : List ℕ) (found all : ℕ) → 0 < n
     → found ≤ length list → found ≤ suc maxSets → all ≡ rowsBelow n → (l : Listed (rowOf neighbours) (suc maxSets) width all [] (take found list))
-    → length (maximalSets (near neighbours) n) ≤ maxSets → l .0 ≤ suc (n * length (maximalSets (near neighbours) n))
+    → length (maximalSets (adjacent neighbours) n) ≤ maxSets → l .0 ≤ suc (n * length (maximalSets (adjacent neighbours) n))
 few-calls neighbours n g width bits list found all pos fits few ea l small =
     let number = number neighbours n g width bits list found all pos fits few ea l in
     let held = held neighbours n g width bits list found all pos fits few ea l in
-    let same : length (take found list) ≡ length (maximalSets (near neighbours) n) = omega arith in
+    let same : length (take found list) ≡ length (maximalSets (adjacent neighbours) n) = omega arith in
     subst (λ (k : ℕ). l .0 ≤ suc (n * k)) same
     (calls-done (rowOf neighbours) (suc maxSets) width n bits
     (subst (λ (x : ℕ). Parts (rowOf neighbours) (suc maxSets) width x [] (take found list) (l .0)) ea (l .1)) (omega arith))

@@ -7,20 +7,20 @@ use Prim.Native.Nat.{ℕ, _≤_, _<_, _+_, _-_}
 use lib.ListN.{length, take, drop}
 use Rattle.bitsets.specs.Bits.{has, butNot, either, Inside, Sub, sizeBelow}
 use Rattle.cliques.specs.Graph.{Graph}
-use Rattle.cliques.specs.Search.{adjacent, Run}
+use Rattle.cliques.specs.Search.{adjacentBy, Run}
 
-module _ (near : ℕ → ℕ → Bool) where
+module _ (adjacent : ℕ → ℕ → Bool) where
   -- a part of the rows is not empty, and holds each of the rows that complements one of its own
   pub record Part (rows part : ℕ) : Type 0 where
     pub within : Sub part rows
     pub row : ℕ
     pub there : has part row ≡ true
-    pub closed : (j k : ℕ) → has part j ≡ true → has rows k ≡ true → near j k ≡ true → has part k ≡ true
+    pub closed : (j k : ℕ) → has part j ≡ true → has rows k ≡ true → adjacent j k ≡ true → has part k ≡ true
 
   -- rows of a part that complement all its other rows
   pub record Common (part common : ℕ) : Type 0 where
     pub within : Sub common part
-    pub all : (j k : ℕ) → has common j ≡ true → has part k ≡ true → (j ≡ k → ⊥) → near j k ≡ true
+    pub all : (j k : ℕ) → has common j ≡ true → has part k ≡ true → (j ≡ k → ⊥) → adjacent j k ≡ true
 
 -- The sets of the rows are listed part by part: the search lists those of what a part has beside its common rows, and these are put into each.
 pub data Parts (N : ℕ → ℕ) (cap width : ℕ) : ℕ → List ℕ → List ℕ → ℕ → Type 0 where
@@ -29,7 +29,7 @@ pub data Parts (N : ℕ → ℕ) (cap width : ℕ) : ℕ → List ℕ → List �
   -- the list is full
   fills : {rows : ℕ} {l : List ℕ} → cap ≤ length l → Parts N cap width rows l l 0
   -- a part, and then the rows that are left
-  next : {rows part calls more : ℕ} {l out : List ℕ} (common : ℕ) (new : List ℕ) → length l < cap → Part (adjacent N) rows part → Common (adjacent N) part common
+  next : {rows part calls more : ℕ} {l out : List ℕ} (common : ℕ) (new : List ℕ) → length l < cap → Part (adjacentBy N) rows part → Common (adjacentBy N) part common
       → Run N cap (sizeBelow width (butNot part common)) 0 (butNot part common) 0 l (l ++ new) calls
       → Parts N cap width (butNot rows part) (l ++ map (λ s. either s common) new) out more → Parts N cap width rows l out (calls + more)
 
@@ -53,6 +53,6 @@ pub record Searched (N : ℕ → ℕ) (cap width part : ℕ) (l out : List ℕ) 
   pub common : ℕ
   pub new : List ℕ
   pub calls : ℕ
-  pub rows : Common (adjacent N) part common
+  pub rows : Common (adjacentBy N) part common
   pub run : Run N cap (sizeBelow width (butNot part common)) 0 (butNot part common) 0 l (l ++ new) calls
   pub sets : out ≡ l ++ map (λ s. either s common) new

@@ -6,16 +6,16 @@ use mathlib.Core.List.{List, [], _∷_, _++_}
 use Prim.Native.Nat.{ℕ, suc, _≤_, _<_, _+_}
 use lib.ListN.{length, getD}
 use Rattle.bitsets.specs.Bits.{has, both, isSub, withRow, Inside, Sub, lowest, withoutLowest, sizeBelow}
-use Rattle.cliques.specs.Graph.{near, Graph}
-use Rattle.cliques.specs.Maximal.{NearAll, Max}
+use Rattle.cliques.specs.Graph.{adjacent, Graph}
+use Rattle.cliques.specs.Maximal.{AdjacentToAll, Max}
 
 -- the rows that complement row j, of the words of a graph
 abbrev pub rowOf : List ℕ → ℕ → ℕ
 rowOf neighbours j = getD neighbours j 0
 
 -- what a number for each row says
-abbrev pub adjacent : (ℕ → ℕ) → ℕ → ℕ → Bool
-adjacent N j k = has (N j) k
+abbrev pub adjacentBy : (ℕ → ℕ) → ℕ → ℕ → Bool
+adjacentBy N j k = has (N j) k
 
 -- n rows, each with a bit of a word of `width` bits, fall into decided and undecided ones, `rest`, which are counted
 pub record Split (n width decided rest undecided : ℕ) : Type 0 where
@@ -37,11 +37,11 @@ module _ (N : ℕ → ℕ) where
   -- Row i may be taken.
   pub record MayTake (decided set i : ℕ) : Type 0 where
     -- what is taken is maximal among the decided rows and row i: no decided row complements what is kept and row i,
-    pub maximal : (j : ℕ) → has decided j ≡ true → NearAll (adjacent N) (kept set i) j → has (N i) j ≡ true → ⊥
+    pub maximal : (j : ℕ) → has decided j ≡ true → AdjacentToAll (adjacentBy N) (kept set i) j → has (N i) j ≡ true → ⊥
     -- and of the sets that leave the same beside row i it is taken from the first in set order: no row that is not in the set complements
     -- what is kept and the rows of the set before it
-    pub first : (j : ℕ) → has decided j ≡ true → has set j ≡ false → NearAll (adjacent N) (kept set i) j
-        → ((k : ℕ) → has set k ≡ true → k < j → adjacent N j k ≡ true) → ⊥
+    pub first : (j : ℕ) → has decided j ≡ true → has set j ≡ false → AdjacentToAll (adjacentBy N) (kept set i) j
+        → ((k : ℕ) → has set k ≡ true → k < j → adjacentBy N j k ≡ true) → ⊥
 
   -- A run of the search: so many undecided rows, the decided ones, the undecided ones, a set that is maximal among the decided rows, the list
   -- before and after, and the number of calls, with the first.
@@ -76,7 +76,7 @@ pub record Ready (width cap : ℕ) (neighbours : List ℕ) (decided rest undecid
   pub n : ℕ
   pub graph : Graph neighbours n
   pub split : Split n width decided rest undecided
-  pub maximal : Max (near neighbours) decided set
+  pub maximal : Max (adjacent neighbours) decided set
   pub room : cap ≤ length list
   pub few : count ≤ cap
 
@@ -86,28 +86,28 @@ pub record Asked (width : ℕ) (neighbours : List ℕ) (decided set i : ℕ) : T
   pub graph : Graph neighbours n
   pub bits : n ≤ width
   pub past : Inside decided n
-  pub maximal : Max (near neighbours) decided set
+  pub maximal : Max (adjacent neighbours) decided set
   pub row : i < n
 
 -- r holds the rows of `start` that complement each row of the set
-pub record Free (near : ℕ → ℕ → Bool) (set start r : ℕ) : Type 0 where
+pub record Free (adjacent : ℕ → ℕ → Bool) (set start r : ℕ) : Type 0 where
   pub within : Sub r start
-  pub each : (j k : ℕ) → has set j ≡ true → has r k ≡ true → near j k ≡ true
-  pub all : (k : ℕ) → has start k ≡ true → ((j : ℕ) → has set j ≡ true → near j k ≡ true) → has r k ≡ true
+  pub each : (j k : ℕ) → has set j ≡ true → has r k ≡ true → adjacent j k ≡ true
+  pub all : (k : ℕ) → has start k ≡ true → ((j : ℕ) → has set j ≡ true → adjacent j k ≡ true) → has r k ≡ true
 
 -- a free row that is not in the set
-pub record Met (near : ℕ → ℕ → Bool) (free set : ℕ) : Type 0 where
+pub record Met (adjacent : ℕ → ℕ → Bool) (free set : ℕ) : Type 0 where
   pub row : ℕ
   pub there : has free row ≡ true
   pub outside : has set row ≡ false
-  pub before : (k : ℕ) → has free k ≡ true → has set k ≡ true → k < row → near k row ≡ true
+  pub before : (k : ℕ) → has free k ≡ true → has set k ≡ true → k < row → adjacent k row ≡ true
 
 -- The free rows are walked in ascending order, and those that a member of the set among them does not complement are passed over. Yes: no row
 -- outside the set is met. No: the row that is met complements each member among the free rows before it.
-pub record GrowsBack (near : ℕ → ℕ → Bool) (free set : ℕ) (r : Bool) : Type 0 where
+pub record GrowsBack (adjacent : ℕ → ℕ → Bool) (free set : ℕ) (r : Bool) : Type 0 where
   pub yes : r ≡ true → (j : ℕ) → has free j ≡ true → has set j ≡ false
-      → ((k : ℕ) → has free k ≡ true → has set k ≡ true → k < j → near k j ≡ true) → ⊥
-  pub no : r ≡ false → Met near free set
+      → ((k : ℕ) → has free k ≡ true → has set k ≡ true → k < j → adjacent k j ≡ true) → ⊥
+  pub no : r ≡ false → Met adjacent free set
 
 -- a test says yes where P holds, and no where it does not
 pub record Told (P : Type 0) (r : Bool) : Type 0 where

@@ -16,14 +16,14 @@ ghost use Prim.Native.Nat.{suc, _≤_, _<_};
 ghost use lib.ListN.{length, take};
 ghost use Rattle.definitions.specs.Limits.{maxSets, maxUnionRows};
 ghost use Rattle.bitsets.specs.Bits.{Inside, either};
-ghost use Rattle.cliques.specs.Graph.{near, Graph};
+ghost use Rattle.cliques.specs.Graph.{adjacent, Graph};
 ghost use Rattle.cliques.specs.Search.{rowOf};
 ghost use Rattle.cliques.specs.Parts.{Part, Common, RowsOf, Searched, Listed, changed};
 
 // The connected part of the first of the rows: a row of it is put in, and the rows that complement it are put in later.
 fn part_of(neighbours: &[u64], rows: u64) -> u64
     requires { ⌜ RowsOf maxUnionRows (now neighbours) rows × (0 < rows) ⌝ }
-    ensures { λ r. ⌜ Part (near (now (neighbours .entry))) rows r ⌝ }
+    ensures { λ r. ⌜ Part (adjacent (now (neighbours .entry))) rows r ⌝ }
 {
     let mut part = 0;
     let mut ahead = with_row(0, lowest_row(rows));
@@ -38,7 +38,7 @@ fn part_of(neighbours: &[u64], rows: u64) -> u64
 // The rows of a part that complement all its other rows.
 fn common_rows(neighbours: &[u64], part: u64) -> u64
     requires { ⌜ RowsOf maxUnionRows (now neighbours) part ⌝ }
-    ensures { λ r. ⌜ Common (near (now (neighbours .entry))) part r ⌝ }
+    ensures { λ r. ⌜ Common (adjacent (now (neighbours .entry))) part r ⌝ }
 {
     let mut common = 0;
     let mut rest = part;

@@ -11,7 +11,7 @@ ghost use Prim.Native.Nat.{suc, _≤_, _<_};
 ghost use lib.ListN.{length, take};
 ghost use Rattle.definitions.specs.Limits.{maxSets, maxUnionRows};
 ghost use Rattle.bitsets.specs.Bits.{Inside};
-ghost use Rattle.cliques.specs.Graph.{near};
+ghost use Rattle.cliques.specs.Graph.{adjacent};
 ghost use Rattle.cliques.specs.Maximal.{Clique};
 ghost use Rattle.cliques.specs.Search.{rowOf, taken, MayTake, Ran, Ready, Asked, Free, GrowsBack, Told};
 
@@ -24,7 +24,7 @@ pub const MAX_SETS: usize = 1024;
 // The rows of `start` that complement each row of the set.
 fn free_rows(neighbours: &[u64], set: u64, start: u64) -> u64
     requires { ⌜ Inside set (length (now neighbours)) ⌝ }
-    ensures { λ r. ⌜ Free (near (now (neighbours .entry))) set start r ⌝ }
+    ensures { λ r. ⌜ Free (adjacent (now (neighbours .entry))) set start r ⌝ }
 {
     let mut rest = set;
     let mut word = start;
@@ -37,8 +37,8 @@ fn free_rows(neighbours: &[u64], set: u64, start: u64) -> u64
 
 // Is what the free rows give, each taken in ascending order where it complements those before it, of the set alone?
 fn grows_back(neighbours: &[u64], free: u64, set: u64) -> bool
-    requires { ⌜ Inside free (length (now neighbours)) × Inside free maxUnionRows × Clique (near (now neighbours)) set ⌝ }
-    ensures { λ r. ⌜ GrowsBack (near (now (neighbours .entry))) free set r ⌝ }
+    requires { ⌜ Inside free (length (now neighbours)) × Inside free maxUnionRows × Clique (adjacent (now neighbours)) set ⌝ }
+    ensures { λ r. ⌜ GrowsBack (adjacent (now (neighbours .entry))) free set r ⌝ }
 {
     let mut rest = free;
     while rest != 0 {
@@ -56,9 +56,9 @@ fn may_take(neighbours: &[u64], decided: u64, set: u64, i: usize) -> bool
     requires { ⌜ Asked maxUnionRows (now neighbours) decided set i ⌝ }
     ensures { λ r. ⌜ Told (MayTake (rowOf (now (neighbours .entry))) decided set i) r ⌝ }
 {
-    let near = neighbours[i];
-    let free = free_rows(neighbours, meet(set, near), decided);
-    if meet(free, near) != 0 {
+    let adjacent = neighbours[i];
+    let free = free_rows(neighbours, meet(set, adjacent), decided);
+    if meet(free, adjacent) != 0 {
         return false;
     }
     grows_back(neighbours, free, set)

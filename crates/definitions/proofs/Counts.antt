@@ -18,13 +18,13 @@ use Rattle.definitions.specs.OuterUnion.{compareRow}
 use Rattle.definitions.specs.MinimumUnion.{subsumes, minimumRows, tries, pairsTried}
 use Rattle.definitions.specs.ComplementUnion.{joined, unionSets, fusedRows}
 use Rattle.definitions.specs.SetList.{bits, marksFrom, setRecord, setList}
-use Rattle.definitions.specs.Statements.{Stands}
+use Rattle.definitions.specs.Statements.{Member}
 use Rattle.definitions.proofs.Bools.{bool-cases}
-use Rattle.definitions.proofs.Lists.{map-stands, sum-bound, keep-length}
+use Rattle.definitions.proofs.Lists.{map-member, sum-bound, filter-length}
 
 -- ---- words of images and set lists
 
-pub flatten-length : {A : Type 0} (c : ℕ) (l : List (List A)) → ((r : List A) → Stands r l → length r ≡ c) → length (flatten l) ≡ length l * c
+pub flatten-length : {A : Type 0} (c : ℕ) (l : List (List A)) → ((r : List A) → Member r l → length r ≡ c) → length (flatten l) ≡ length l * c
 unfolding flatten
 flatten-length c [] f = sym (zero-mul c)
 flatten-length c (r ∷ l) f =
@@ -32,7 +32,7 @@ flatten-length c (r ∷ l) f =
     let h = f r (inl refl) in
     length-append r (flatten l) ∙ rw suc-mul (omega arith)
 
-pub image-length : (ids : List ℕ) (rows : List (List ℕ)) → ((r : List ℕ) → Stands r rows → length r ≡ length ids)
+pub image-length : (ids : List ℕ) (rows : List (List ℕ)) → ((r : List ℕ) → Member r rows → length r ≡ length ids)
     → length (imageOf ids rows) ≡ 1 + length ids + length rows * length ids
 unfolding imageOf
 image-length ids rows f =
@@ -54,7 +54,7 @@ pub set-list-length : (rows : List (List ℕ)) → length (setList rows) ≡ 1 +
 unfolding setList
 set-list-length rows =
     let f = flatten-length setWidth (map (setRecord rows) (unionSets rows))
-    (λ r h. let i = map-stands (setRecord rows) r (unionSets rows) h in ap (λ (l : List ℕ). length l) (i .2) ∙ record-length rows (i .0)) in
+    (λ r h. let i = map-member (setRecord rows) r (unionSets rows) h in ap (λ (l : List ℕ). length l) (i .2) ∙ record-length rows (i .0)) in
     let m = length-map (unionSets rows) (setRecord rows) in
     omega arith
 
@@ -89,7 +89,7 @@ fused-count rows =
 
 pub minimum-count : (rows : List (List ℕ)) → length (minimumRows rows) ≤ length rows
 unfolding minimumRows
-minimum-count rows = keep-length _ rows
+minimum-count rows = filter-length _ rows
 
 -- ---- pairs tried
 

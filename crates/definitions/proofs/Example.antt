@@ -2,13 +2,13 @@
 use mathlib.Core.Path.{_≡_, refl}
 use mathlib.Core.List.{List, [], _∷_, _++_, flatten}
 use Prim.Native.Nat.{ℕ, _/_, _%_, _^_}
-use Rattle.definitions.specs.Lists.{all, any, keep, place, distinct, allBelow, sumBelow}
+use Rattle.definitions.specs.Lists.{all, any, filter, findIndex, distinct, allBelow, sumBelow}
 use Rattle.definitions.specs.Word.{wordOf}
 use Rattle.definitions.specs.Image.{imageOf}
 use Rattle.definitions.specs.Ascending.{insert, ascending}
 use Rattle.definitions.specs.OuterUnion.{compareRow, unionIds, widened, widenedRows, unionRows}
 use Rattle.definitions.specs.MinimumUnion.{filled, covers, subsumes, minimumRows, tries, pairsTried}
-use Rattle.definitions.specs.ComplementUnion.{sameRow, agree, share, complement, marked, subsets, nearAll, isComplementing, isMaximal, maximalSets, members, join, joinAll, joined, unionSets, fusedRows}
+use Rattle.definitions.specs.ComplementUnion.{sameRow, agree, share, complement, contains, subsets, adjacentToAll, isComplementing, isMaximal, maximalSets, members, join, joinAll, joined, unionSets, fusedRows}
 use Rattle.definitions.specs.SetList.{bits, marksFrom, setRecord, setList}
 use Rattle.definitions.specs.Questions.{imageNumber}
 use Rattle.definitions.specs.Calls.{pairNumber, fusedImage, complementOutcome}
@@ -60,8 +60,8 @@ output =
     ++ ascii "9 5 41 1\n"
 
 pub worked-example : fuseText board plant ≡ output
-unfolding flatten all any keep place distinct allBelow sumBelow imageOf insert ascending compareRow unionIds widened widenedRows unionRows
-    filled covers subsumes minimumRows tries pairsTried sameRow agree share complement marked subsets nearAll isComplementing isMaximal
+unfolding flatten all any filter findIndex distinct allBelow sumBelow imageOf insert ascending compareRow unionIds widened widenedRows unionRows
+    filled covers subsumes minimumRows tries pairsTried sameRow agree share complement contains subsets adjacentToAll isComplementing isMaximal
     maximalSets members join joinAll joined unionSets fusedRows bits marksFrom setRecord setList imageNumber pairNumber fusedImage
     complementOutcome wordsOf digits decimal cellText line positionsOf unionText minimumText setsText fusedText listing unionsText
     readText fuseText

@@ -12,7 +12,7 @@ use Rattle.definitions.specs.Limits.{maxRows, maxUnionRows}
 use Rattle.definitions.specs.Word.{rowsOf, columnsOf, headerWord, idOf, columnWord}
 use Rattle.definitions.specs.Image.{columnCount, rowCount, columnWords, imageIds, cellWords, rowsIn, imageRows, imageOf}
 use Rattle.definitions.specs.OuterUnion.{compareRow, unionIds, widened, widenedRows, unionRows}
-use Rattle.definitions.specs.Statements.{Stands}
+use Rattle.definitions.specs.Statements.{Member}
 use Rattle.definitions.proofs.Counts.{ascending-length}
 use Rattle.definitions.proofs.Questions.{Passed, passed-is}
 use Rattle.definitions.proofs.Outcomes.{Accepted}
@@ -25,7 +25,7 @@ header-columns r c h = omega arith
 pub header-rows : (r c : ℕ) → r < 2 ^ 12 → c < 2 ^ 5 → rowsOf (headerWord r c) ≡ r
 header-rows r c h g = omega arith
 
-ids-read : (ids : List ℕ) → ((id : ℕ) → Stands id ids → id < 2 ^ 16) → map idOf (map columnWord ids) ≡ ids
+ids-read : (ids : List ℕ) → ((id : ℕ) → Member id ids → id < 2 ^ 16) → map idOf (map columnWord ids) ≡ ids
 ids-read [] f = refl
 ids-read (x ∷ ids) f =
     let h = f x (inl refl) in
@@ -33,7 +33,7 @@ ids-read (x ∷ ids) f =
     ap₂ (λ (y : ℕ) (l : List ℕ). y ∷ l) e (ids-read ids (λ id g. f id (inr g)))
 
 -- the rows of a list that begins with rows joined
-pub rows-read : (c : ℕ) (rows : List (List ℕ)) (rest : List ℕ) → ((r : List ℕ) → Stands r rows → length r ≡ c)
+pub rows-read : (c : ℕ) (rows : List (List ℕ)) (rest : List ℕ) → ((r : List ℕ) → Member r rows → length r ≡ c)
     → rowsIn c (length rows) (flatten rows ++ rest) ≡ rows
 unfolding flatten
 rows-read c [] rest f = refl
@@ -50,7 +50,7 @@ module _ (ids : List ℕ) (rows : List (List ℕ)) (few : length ids < 2 ^ 5) wh
   unfolding imageOf
   image-columns = header-columns (length rows) (length ids) few
 
-  pub image-ids : ((id : ℕ) → Stands id ids → id < 2 ^ 16) → imageIds (imageOf ids rows) ≡ ids
+  pub image-ids : ((id : ℕ) → Member id ids → id < 2 ^ 16) → imageIds (imageOf ids rows) ≡ ids
   unfolding imageOf
   image-ids f =
       ap (λ (n : ℕ). map idOf (take n (map columnWord ids ++ flatten rows))) image-columns
@@ -58,7 +58,7 @@ module _ (ids : List ℕ) (rows : List (List ℕ)) (few : length ids < 2 ^ 5) wh
       ∙ ids-read ids f
 
   -- the rows of an image at the front of a longer buffer
-  pub image-rows-front : (rest : List ℕ) → length rows < 2 ^ 12 → ((r : List ℕ) → Stands r rows → length r ≡ length ids) → imageRows (imageOf ids rows ++ rest) ≡ rows
+  pub image-rows-front : (rest : List ℕ) → length rows < 2 ^ 12 → ((r : List ℕ) → Member r rows → length r ≡ length ids) → imageRows (imageOf ids rows ++ rest) ≡ rows
   unfolding imageOf
   image-rows-front rest g f =
       let columns : columnCount (imageOf ids rows ++ rest) ≡ length ids = image-columns in
@@ -72,7 +72,7 @@ module _ (ids : List ℕ) (rows : List (List ℕ)) (few : length ids < 2 ^ 5) wh
       ∙ ap (rowsIn (length ids) (length rows)) cells
       ∙ rows-read (length ids) rows rest f
 
-  pub image-rows : length rows < 2 ^ 12 → ((r : List ℕ) → Stands r rows → length r ≡ length ids) → imageRows (imageOf ids rows) ≡ rows
+  pub image-rows : length rows < 2 ^ 12 → ((r : List ℕ) → Member r rows → length r ≡ length ids) → imageRows (imageOf ids rows) ≡ rows
   image-rows g f = ap imageRows (sym (append-nil (imageOf ids rows))) ∙ image-rows-front [] g f
 
 -- ---- an image that passes
@@ -81,7 +81,7 @@ rows-count : (c n : ℕ) (words : List ℕ) → length (rowsIn c n words) ≡ n
 rows-count c zero words = refl
 rows-count c (suc n) words = ap suc (rows-count c n (drop c words))
 
-rows-long : (c n : ℕ) (words : List ℕ) → length words ≡ n * c → (r : List ℕ) → Stands r (rowsIn c n words) → length r ≡ c
+rows-long : (c n : ℕ) (words : List ℕ) → length words ≡ n * c → (r : List ℕ) → Member r (rowsIn c n words) → length r ≡ c
 rows-long c zero words e r h = absurd h
 rows-long c (suc n) words e r h =
     let s = suc-mul n c in
@@ -94,7 +94,7 @@ module _ (limit : ℕ) (image : List ℕ) (p : Passed limit image) where
       let d = length-drop 1 image in
       length-map (columnWords image) idOf ∙ length-take-le (columnCount image) (drop 1 image) (omega (arith, p .all-words))
 
-  pub passed-rows : (r : List ℕ) → Stands r (imageRows image) → length r ≡ columnCount image
+  pub passed-rows : (r : List ℕ) → Member r (imageRows image) → length r ≡ columnCount image
   passed-rows r h =
       rows-long (columnCount image) (rowCount image) (cellWords image)
       (length-drop (1 + columnCount image) image ∙ omega (arith, p .all-words)) r h

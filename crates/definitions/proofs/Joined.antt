@@ -11,10 +11,10 @@ use lib.ListN.{length, getD}
 use borrow.Author.Tests.{eqb-true, eqb-false}
 use Rattle.definitions.specs.Word.{isFilled}
 use Rattle.definitions.specs.MinimumUnion.{covers, subsumes}
-use Rattle.definitions.specs.ComplementUnion.{agree, complement, complementAt, marked, members, join, joinAll, joined}
-use Rattle.definitions.specs.Statements.{Stands}
+use Rattle.definitions.specs.ComplementUnion.{agree, complement, complementAt, contains, members, join, joinAll, joined}
+use Rattle.definitions.specs.Statements.{Member}
 use Rattle.definitions.proofs.Bools.{bool-cases, clash}
-use Rattle.definitions.proofs.Lists.{stands-get}
+use Rattle.definitions.proofs.Lists.{member-get}
 use Rattle.definitions.proofs.Rows.{Filled, filled-cell, empty-cell, cell-filled, cell-empty, CellAgrees, agree-at, agree-of, covers-of}
 use Rattle.definitions.proofs.Subsumption.{covers-cases}
 use Rattle.definitions.proofs.Complementing.{complement-is}
@@ -37,7 +37,7 @@ join-empty : (s t : List ℕ) (k : ℕ) → getD s k 0 ≡ 0 → getD (join s t)
 join-empty s t k h = join-at s t k ∙ ap (λ (b : Bool). cond b (getD s k 0) (getD t k 0)) (cell-empty (getD s k 0) h)
 
 -- "in each column, the number that some member has there, or empty": filled, it is a member's
-pub join-some : (l : List (List ℕ)) (k : ℕ) → Filled (getD (joinAll l) k 0) → (r : List ℕ) × Stands r l × (getD (joinAll l) k 0 ≡ getD r k 0)
+pub join-some : (l : List (List ℕ)) (k : ℕ) → Filled (getD (joinAll l) k 0) → (r : List ℕ) × Member r l × (getD (joinAll l) k 0 ≡ getD r k 0)
 unfolding joinAll
 join-some [] k h = absurd (h refl)
 join-some (r ∷ l) k h =
@@ -49,7 +49,7 @@ join-some (r ∷ l) k h =
     (i .0, inr (i .1), q ∙ i .2))
 
 -- empty, all members are empty there
-join-none : (l : List (List ℕ)) (k : ℕ) → getD (joinAll l) k 0 ≡ 0 → (r : List ℕ) → Stands r l → getD r k 0 ≡ 0
+join-none : (l : List (List ℕ)) (k : ℕ) → getD (joinAll l) k 0 ≡ 0 → (r : List ℕ) → Member r l → getD r k 0 ≡ 0
 unfolding joinAll
 join-none [] k e r h = absurd h
 join-none (s ∷ l) k e r h =
@@ -59,7 +59,7 @@ join-none (s ∷ l) k e r h =
     let z = empty-cell (getD s k 0) f in
     ⊎-elim (λ q. ap (λ (u : List ℕ). getD u k 0) q ∙ z) (λ q. join-none l k (sym (join-empty s (joinAll l) k z) ∙ e) r q) h)
 
-pub join-empty-is : (l : List (List ℕ)) (k : ℕ) → (getD (joinAll l) k 0 ≡ 0) ↔ ((r : List ℕ) → Stands r l → getD r k 0 ≡ 0)
+pub join-empty-is : (l : List (List ℕ)) (k : ℕ) → (getD (joinAll l) k 0 ≡ 0) ↔ ((r : List ℕ) → Member r l → getD r k 0 ≡ 0)
 join-empty-is l k = (
   join-none l k,
   λ f. bool-cases (isFilled (getD (joinAll l) k 0))
@@ -72,7 +72,7 @@ filled-agree : (x y : ℕ) → Filled x → Filled y → CellAgrees x y → x �
 filled-agree x y h k a = ⊎-elim (λ e. e) (λ r. ⊎-elim (λ e. absurd (h e)) (λ e. absurd (k e)) r) a
 
 -- where the members agree pairwise, the joined row has each member's numbers
-pub join-covers : (l : List (List ℕ)) → ((r t : List ℕ) → Stands r l → Stands t l → agree r t ≡ true) → (r : List ℕ) → Stands r l → covers (joinAll l) r ≡ true
+pub join-covers : (l : List (List ℕ)) → ((r t : List ℕ) → Member r l → Member t l → agree r t ≡ true) → (r : List ℕ) → Member r l → covers (joinAll l) r ≡ true
 join-covers l f r h =
     covers-of (joinAll l) r (λ k.
     bool-cases (isFilled (getD r k 0))
@@ -93,21 +93,21 @@ join-length zero (x ∷ s) (y ∷ t) e h = absurd (omega arith)
 join-length (suc c) (x ∷ s) (y ∷ t) e h =
     ap suc (join-length c s t (omega arith) (⊎-elim (λ q. inl (omega arith)) (λ q. absurd (let z = ap (λ (l : List ℕ). length l) q in omega arith)) h))
 
-join-all-length : (c : ℕ) (l : List (List ℕ)) → ((r : List ℕ) → Stands r l → length r ≡ c) → (length (joinAll l) ≡ c) ⊎ (joinAll l ≡ [])
+join-all-length : (c : ℕ) (l : List (List ℕ)) → ((r : List ℕ) → Member r l → length r ≡ c) → (length (joinAll l) ≡ c) ⊎ (joinAll l ≡ [])
 unfolding joinAll
 join-all-length c [] f = inr refl
 join-all-length c (r ∷ l) f = inl (join-length c r (joinAll l) (f r (inl refl)) (join-all-length c l (λ t h. f t (inr h))))
 
 -- the joined row of some equally long rows is as long
-pub join-some-length : (c : ℕ) (l : List (List ℕ)) → ((r : List ℕ) → Stands r l → length r ≡ c) → (r : List ℕ) → Stands r l → length (joinAll l) ≡ c
+pub join-some-length : (c : ℕ) (l : List (List ℕ)) → ((r : List ℕ) → Member r l → length r ≡ c) → (r : List ℕ) → Member r l → length (joinAll l) ≡ c
 unfolding joinAll
 join-some-length c [] f r h = absurd h
 join-some-length c (s ∷ l) f r h = join-length c s (joinAll l) (f s (inl refl)) (join-all-length c l (λ t k. f t (inr k)))
 
 -- ---- the members of a set
 
-members-at : (rows : List (List ℕ)) (s : List Bool) (k : ℕ) → k < length rows → Holds s k → Stands (getD rows k []) (members rows s)
-unfolding members marked
+members-at : (rows : List (List ℕ)) (s : List Bool) (k : ℕ) → k < length rows → Holds s k → Member (getD rows k []) (members rows s)
+unfolding members contains
 members-at rows [] k h e = absurd (clash refl (sym e))
 members-at [] (m ∷ s) k h e = absurd (not-suc-le-zero h)
 members-at (r ∷ rows) (m ∷ s) zero h e = rw e (inl refl)
@@ -119,34 +119,34 @@ members-at (r ∷ rows) (m ∷ s) (suc k) h e =
 abbrev pub MemberAt : List (List ℕ) → List Bool → List ℕ → Type 0
 MemberAt rows s r = (k : ℕ) × (k < length rows) × Holds s k × (r ≡ getD rows k [])
 
-members-from : (rows : List (List ℕ)) (s : List Bool) (r : List ℕ) → Stands r (members rows s) → MemberAt rows s r
-unfolding members marked
+members-from : (rows : List (List ℕ)) (s : List Bool) (r : List ℕ) → Member r (members rows s) → MemberAt rows s r
+unfolding members contains
 members-from rows [] r h = absurd h
 members-from [] (m ∷ s) r h = absurd h
 members-from (x ∷ rows) (m ∷ s) r h =
-    let later : Stands r (members rows s) → MemberAt (x ∷ rows) (m ∷ s) r =
+    let later : Member r (members rows s) → MemberAt (x ∷ rows) (m ∷ s) r =
     λ q. let i = members-from rows s r q in (suc (i .0), omega (arith, i .1), i .2, i .3) in
     bool-cases m
     (λ e. ⊎-elim (λ q. (0, omega arith, e, q)) later (rw e at h))
     (λ e. later (rw e at h))
 
-pub members-are : (rows : List (List ℕ)) (s : List Bool) (r : List ℕ) → Stands r (members rows s) ↔ MemberAt rows s r
+pub members-are : (rows : List (List ℕ)) (s : List Bool) (r : List ℕ) → Member r (members rows s) ↔ MemberAt rows s r
 members-are rows s r = (
   members-from rows s r,
-  λ i. subst (λ (u : List ℕ). Stands u (members rows s)) (sym (i .3)) (members-at rows s (i .0) (i .1) (i .2)),
+  λ i. subst (λ (u : List ℕ). Member u (members rows s)) (sym (i .3)) (members-at rows s (i .0) (i .1) (i .2)),
 )
 
-members-even : (rows : List (List ℕ)) (n : ℕ) → ((r : List ℕ) → Stands r rows → length r ≡ n) → (s : List Bool) (r : List ℕ) → Stands r (members rows s) → length r ≡ n
+members-even : (rows : List (List ℕ)) (n : ℕ) → ((r : List ℕ) → Member r rows → length r ≡ n) → (s : List Bool) (r : List ℕ) → Member r (members rows s) → length r ≡ n
 members-even rows n f s r h =
     let i = members-from rows s r h in
-    ap (λ (u : List ℕ). length u) (i .3) ∙ f (getD rows (i .0) []) (stands-get [] rows (i .0) (i .1))
+    ap (λ (u : List ℕ). length u) (i .3) ∙ f (getD rows (i .0) []) (member-get [] rows (i .0) (i .1))
 
 agree-self : (r : List ℕ) → agree r r ≡ true
 agree-self r = agree-of r r (λ k. inl refl)
 
 module _ (rows : List (List ℕ)) (s : List Bool) (c : Complementing (complementAt rows) (length rows) s) where
   -- the members of a complementing set agree
-  pub members-agree : (r t : List ℕ) → Stands r (members rows s) → Stands t (members rows s) → agree r t ≡ true
+  pub members-agree : (r t : List ℕ) → Member r (members rows s) → Member t (members rows s) → agree r t ≡ true
   members-agree r t h g =
       let i = members-from rows s r h in
       let j = members-from rows s t g in
@@ -158,7 +158,7 @@ module _ (rows : List (List ℕ)) (s : List Bool) (c : Complementing (complement
       agree-of r t (complement-is r t .0 q .agreeing))
 
   -- each member is equal to or subsumed by the joined row
-  pub member-covered : (n : ℕ) → ((r : List ℕ) → Stands r rows → length r ≡ n) → (r : List ℕ) → Stands r (members rows s)
+  pub member-covered : (n : ℕ) → ((r : List ℕ) → Member r rows → length r ≡ n) → (r : List ℕ) → Member r (members rows s)
       → (joined rows s ≡ r) ⊎ (subsumes (joined rows s) r ≡ true)
   unfolding joined
   member-covered n f r h =
@@ -168,16 +168,16 @@ module _ (rows : List (List ℕ)) (s : List Bool) (c : Complementing (complement
 
 -- "The joined row of a set has, in each column, the number that some member has there, or empty."
 module _ (rows : List (List ℕ)) (s : List Bool) (k : ℕ) where
-  pub joined-some : Filled (getD (joined rows s) k 0) → (r : List ℕ) × Stands r (members rows s) × (getD (joined rows s) k 0 ≡ getD r k 0)
+  pub joined-some : Filled (getD (joined rows s) k 0) → (r : List ℕ) × Member r (members rows s) × (getD (joined rows s) k 0 ≡ getD r k 0)
   unfolding joined
   joined-some = join-some (members rows s) k
 
-  pub joined-empty : (getD (joined rows s) k 0 ≡ 0) ↔ ((r : List ℕ) → Stands r (members rows s) → getD r k 0 ≡ 0)
+  pub joined-empty : (getD (joined rows s) k 0 ≡ 0) ↔ ((r : List ℕ) → Member r (members rows s) → getD r k 0 ≡ 0)
   unfolding joined
   joined-empty = join-empty-is (members rows s) k
 
 -- the joined row of a set that isn't empty is as long as the rows
-pub joined-length : (rows : List (List ℕ)) (n : ℕ) → ((r : List ℕ) → Stands r rows → length r ≡ n) → (s : List Bool) → length s ≡ length rows
+pub joined-length : (rows : List (List ℕ)) (n : ℕ) → ((r : List ℕ) → Member r rows → length r ≡ n) → (s : List Bool) → length s ≡ length rows
     → (k : ℕ) → Holds s k → length (joined rows s) ≡ n
 unfolding joined
 joined-length rows n f s e k h =

@@ -10,9 +10,9 @@ use lib.ListN.{length, length-append, length-map}
 use Rattle.definitions.specs.Reading.{positionsOf}
 use Rattle.definitions.specs.Text.{ascii, decimal, cellText}
 use Rattle.definitions.specs.Listing.{line, titleLine, rowLine, setLine, refusedLine}
-use Rattle.definitions.specs.Statements.{Stands}
-use Rattle.definitions.proofs.Ascending.{stands-split}
-use Rattle.definitions.proofs.Lists.{map-stands}
+use Rattle.definitions.specs.Statements.{Member}
+use Rattle.definitions.proofs.Ascending.{member-split}
+use Rattle.definitions.proofs.Lists.{map-member}
 use Rattle.definitions.proofs.Digits.{decimal-length}
 use Rattle.definitions.proofs.Cells.{cell-length}
 
@@ -28,12 +28,12 @@ line-first f (g ∷ fields) = ap (λ (r : List ℕ). f ++ (32 ∷ r)) (line-firs
 
 -- every list is at most so long
 abbrev pub AtMost : ℕ → List (List ℕ) → Type 0
-AtMost most l = (f : List ℕ) → Stands f l → length f ≤ most
+AtMost most l = (f : List ℕ) → Member f l → length f ≤ most
 
-pub at-most-map : {A : Type 0} (most : ℕ) (f : A → List ℕ) (l : List A) → ((x : A) → Stands x l → length (f x) ≤ most)
+pub at-most-map : {A : Type 0} (most : ℕ) (f : A → List ℕ) (l : List A) → ((x : A) → Member x l → length (f x) ≤ most)
     → AtMost most (map f l)
 at-most-map most f l h g s =
-    let i = map-stands f g l s in
+    let i = map-member f g l s in
     omega (arith, ap length (i .2), h (i .0) (i .1))
 
 pub flatten-bound : (most : ℕ) (l : List (List ℕ)) → AtMost most l → length (flatten l) ≤ length l * most
@@ -60,7 +60,7 @@ later-bound most (f ∷ fields) h =
     )
 
 -- numbers of at most five digits
-pub title-bound : (title numbers : List ℕ) → ((n : ℕ) → Stands n numbers → n < 10 ^ 5)
+pub title-bound : (title numbers : List ℕ) → ((n : ℕ) → Member n numbers → n < 10 ^ 5)
     → length (titleLine title numbers) ≤ length title + 1 + 6 * length numbers
 title-bound title numbers h =
     omega (
@@ -87,7 +87,7 @@ row-bound (c ∷ cells) =
 -- ---- a set line
 
 -- positions of at most two digits before other fields
-positions-front : (ps : List ℕ) (f : List ℕ) (fields : List (List ℕ)) → ((p : ℕ) → Stands p ps → p < 10 ^ 2)
+positions-front : (ps : List ℕ) (f : List ℕ) (fields : List (List ℕ)) → ((p : ℕ) → Member p ps → p < 10 ^ 2)
     → length (line (map decimal ps ++ (f ∷ fields))) ≤ 3 * length ps + length (line (f ∷ fields))
 positions-front [] f fields h = omega arith
 positions-front (p ∷ []) f fields h =
@@ -109,7 +109,7 @@ positions-front (p ∷ q ∷ ps) f fields h =
       positions-front (q ∷ ps) f fields (λ r s. h r (inr s)),
     )
 
-pub set-bound : (ps : List ℕ) (place : ℕ) → ((p : ℕ) → Stands p ps → p < 10 ^ 2) → place < 10 ^ 4
+pub set-bound : (ps : List ℕ) (place : ℕ) → ((p : ℕ) → Member p ps → p < 10 ^ 2) → place < 10 ^ 4
     → length (setLine ps place) ≤ 3 * length ps + 7
 set-bound ps place h k =
     omega (
@@ -126,7 +126,7 @@ positions-count from [] = omega arith
 positions-count from (true ∷ s) = omega (arith, positions-count (suc from) s)
 positions-count from (false ∷ s) = omega (arith, positions-count (suc from) s)
 
-pub positions-small : (from : ℕ) (s : List Bool) (p : ℕ) → Stands p (positionsOf from s) → p < from + length s
+pub positions-small : (from : ℕ) (s : List Bool) (p : ℕ) → Member p (positionsOf from s) → p < from + length s
 unfolding positionsOf
 positions-small from [] p h = absurd h
 positions-small from (true ∷ s) p h =

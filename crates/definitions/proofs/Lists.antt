@@ -12,35 +12,35 @@ use lib.Seq.{take-suc}
 use borrow.Author.Tests.{not-true}
 use Rattle.definitions.specs.declared.Order.{Order}
 use Rattle.definitions.specs.declared.Order.the-variants.{Before}
-use Rattle.definitions.specs.Lists.{all, any, keep, place, distinct, allBelow, sumBelow}
-use Rattle.definitions.specs.Statements.{Stands, Orders, Above, Rising}
+use Rattle.definitions.specs.Lists.{all, any, filter, findIndex, distinct, allBelow, sumBelow}
+use Rattle.definitions.specs.Statements.{Member, Orders, Above, StrictlyAscending}
 use Rattle.definitions.proofs.Bools.{bool-cases, clash, not-so, and-l, and-r, and-i, or-cases, or-l, or-r}
-use Rattle.definitions.proofs.Ascending.{not-before-self, rising-get}
+use Rattle.definitions.proofs.Ascending.{not-before-self, strict-get}
 
 -- ---- elements and positions
 
 module _ {A : Type 0} where
-  pub stands-get : (d : A) (l : List A) (k : ℕ) → k < length l → Stands (getD l k d) l
-  stands-get d [] k h = absurd (not-suc-le-zero h)
-  stands-get d (x ∷ l) zero h = inl refl
-  stands-get d (x ∷ l) (suc k) h = inr (stands-get d l k (le-of-suc-le-suc h))
+  pub member-get : (d : A) (l : List A) (k : ℕ) → k < length l → Member (getD l k d) l
+  member-get d [] k h = absurd (not-suc-le-zero h)
+  member-get d (x ∷ l) zero h = inl refl
+  member-get d (x ∷ l) (suc k) h = inr (member-get d l k (le-of-suc-le-suc h))
 
-  pub stands-at : (d x : A) (l : List A) → Stands x l → (k : ℕ) × (k < length l) × (getD l k d ≡ x)
-  stands-at d x [] h = absurd h
-  stands-at d x (y ∷ l) h =
-      ⊎-elim (λ e. (0, omega arith, sym e)) (λ r. let i = stands-at d x l r in (suc (i .0), omega (arith, i .1), i .2)) h
+  pub member-at : (d x : A) (l : List A) → Member x l → (k : ℕ) × (k < length l) × (getD l k d ≡ x)
+  member-at d x [] h = absurd h
+  member-at d x (y ∷ l) h =
+      ⊎-elim (λ e. (0, omega arith, sym e)) (λ r. let i = member-at d x l r in (suc (i .0), omega (arith, i .1), i .2)) h
 
 module _ {A B : Type 0} where
-  pub stands-map : (f : A → B) (x : A) (l : List A) → Stands x l → Stands (f x) (map f l)
-  stands-map f x [] h = h
-  stands-map f x (y ∷ l) h = ⊎-elim (λ e. inl (ap f e)) (λ r. inr (stands-map f x l r)) h
+  pub member-map : (f : A → B) (x : A) (l : List A) → Member x l → Member (f x) (map f l)
+  member-map f x [] h = h
+  member-map f x (y ∷ l) h = ⊎-elim (λ e. inl (ap f e)) (λ r. inr (member-map f x l r)) h
 
-  pub map-stands : (f : A → B) (y : B) (l : List A) → Stands y (map f l) → (x : A) × Stands x l × (y ≡ f x)
-  map-stands f y [] h = absurd h
-  map-stands f y (x ∷ l) h =
-      ⊎-elim (λ e. (x, inl refl, e)) (λ r. let i = map-stands f y l r in (i .0, inr (i .1), i .2)) h
+  pub map-member : (f : A → B) (y : B) (l : List A) → Member y (map f l) → (x : A) × Member x l × (y ≡ f x)
+  map-member f y [] h = absurd h
+  map-member f y (x ∷ l) h =
+      ⊎-elim (λ e. (x, inl refl, e)) (λ r. let i = map-member f y l r in (i .0, inr (i .1), i .2)) h
 
-  pub map-ext : (f g : A → B) (l : List A) → ((x : A) → Stands x l → f x ≡ g x) → map f l ≡ map g l
+  pub map-ext : (f g : A → B) (l : List A) → ((x : A) → Member x l → f x ≡ g x) → map f l ≡ map g l
   map-ext f g [] h = refl
   map-ext f g (x ∷ l) h = ap₂ (λ (b : B) (r : List B). b ∷ r) (h x (inl refl)) (map-ext f g l (λ y k. h y (inr k)))
 
@@ -52,22 +52,22 @@ module _ {A B : Type 0} where
 -- ---- some element
 
 module _ {A : Type 0} (p : A → Bool) where
-  pub any-true : (l : List A) → any p l ≡ true → (x : A) × Stands x l × (p x ≡ true)
+  pub any-true : (l : List A) → any p l ≡ true → (x : A) × Member x l × (p x ≡ true)
   unfolding any
   any-true [] e = absurd (clash refl (sym e))
   any-true (y ∷ l) e =
       ⊎-elim (λ q. (y, inl refl, q)) (λ q. let i = any-true l q in (i .0, inr (i .1), i .2)) (or-cases (p y) (any p l) e)
 
-  pub any-of : (x : A) (l : List A) → Stands x l → p x ≡ true → any p l ≡ true
+  pub any-of : (x : A) (l : List A) → Member x l → p x ≡ true → any p l ≡ true
   unfolding any
   any-of x [] h e = absurd h
   any-of x (y ∷ l) h e =
       ⊎-elim (λ q. or-l (p y) (any p l) (ap p (sym q) ∙ e)) (λ r. or-r (p y) (any p l) (any-of x l r e)) h
 
-  pub any-false : (l : List A) → any p l ≡ false → (x : A) → Stands x l → p x ≡ false
+  pub any-false : (l : List A) → any p l ≡ false → (x : A) → Member x l → p x ≡ false
   any-false l e x h = not-so (p x) (λ q. clash (any-of x l h q) e)
 
-  pub any-none : (l : List A) → ((x : A) → Stands x l → p x ≡ false) → any p l ≡ false
+  pub any-none : (l : List A) → ((x : A) → Member x l → p x ≡ false) → any p l ≡ false
   any-none l f = not-so (any p l) (λ q. let i = any-true l q in clash (i .2) (f (i .0) (i .1)))
 
   pub all-append : (l m : List A) → all p (l ++ m) ≡ (all p l && all p m)
@@ -98,113 +98,113 @@ module _ {A : Type 0} (p : A → Bool) where
 -- ---- the elements that pass
 
 module _ {A : Type 0} (p : A → Bool) where
-  pub stands-keep : (x : A) (l : List A) → Stands x l → p x ≡ true → Stands x (keep p l)
-  unfolding keep
-  stands-keep x [] h e = h
-  stands-keep x (y ∷ l) h e =
+  pub member-filter : (x : A) (l : List A) → Member x l → p x ≡ true → Member x (filter p l)
+  unfolding filter
+  member-filter x [] h e = h
+  member-filter x (y ∷ l) h e =
       bool-cases (p y)
-      (λ q. rw q (⊎-elim (λ r. inl r) (λ r. inr (stands-keep x l r e)) h))
-      (λ q. rw q (⊎-elim (λ r. absurd (clash e (ap p r ∙ q))) (λ r. stands-keep x l r e) h))
+      (λ q. rw q (⊎-elim (λ r. inl r) (λ r. inr (member-filter x l r e)) h))
+      (λ q. rw q (⊎-elim (λ r. absurd (clash e (ap p r ∙ q))) (λ r. member-filter x l r e) h))
 
-  pub keep-stands : (x : A) (l : List A) → Stands x (keep p l) → Stands x l × (p x ≡ true)
-  unfolding keep
-  keep-stands x [] h = absurd h
-  keep-stands x (y ∷ l) h =
+  pub filter-member : (x : A) (l : List A) → Member x (filter p l) → Member x l × (p x ≡ true)
+  unfolding filter
+  filter-member x [] h = absurd h
+  filter-member x (y ∷ l) h =
       bool-cases (p y)
-      (λ q. ⊎-elim (λ r. (inl r, ap p r ∙ q)) (λ r. let i = keep-stands x l r in (inr (i .0), i .1)) (rw q at h))
-      (λ q. let i = keep-stands x l (rw q at h) in (inr (i .0), i .1))
+      (λ q. ⊎-elim (λ r. (inl r, ap p r ∙ q)) (λ r. let i = filter-member x l r in (inr (i .0), i .1)) (rw q at h))
+      (λ q. let i = filter-member x l (rw q at h) in (inr (i .0), i .1))
 
-  pub keep-append : (l m : List A) → keep p (l ++ m) ≡ keep p l ++ keep p m
-  unfolding keep
-  keep-append [] m = refl
-  keep-append (x ∷ l) m = bool-cases (p x) (λ e. rw e (ap (λ (r : List A). x ∷ r) (keep-append l m))) (λ e. rw e (keep-append l m))
+  pub filter-append : (l m : List A) → filter p (l ++ m) ≡ filter p l ++ filter p m
+  unfolding filter
+  filter-append [] m = refl
+  filter-append (x ∷ l) m = bool-cases (p x) (λ e. rw e (ap (λ (r : List A). x ∷ r) (filter-append l m))) (λ e. rw e (filter-append l m))
 
-  pub keep-snoc : (x : A) (l : List A) → keep p (l ++ (x ∷ [])) ≡ keep p l ++ cond (p x) (x ∷ []) []
-  unfolding keep
-  keep-snoc x l = keep-append l (x ∷ [])
+  pub filter-snoc : (x : A) (l : List A) → filter p (l ++ (x ∷ [])) ≡ filter p l ++ cond (p x) (x ∷ []) []
+  unfolding filter
+  filter-snoc x l = filter-append l (x ∷ [])
 
   -- one element more
-  pub keep-next : (d : A) (l : List A) (k : ℕ) → k < length l
-      → keep p (take (k + 1) l) ≡ keep p (take k l) ++ cond (p (getD l k d)) (getD l k d ∷ []) []
-  keep-next d l k h = ap (keep p) (rw add-one (take-suc l k d h)) ∙ keep-snoc (getD l k d) (take k l)
+  pub filter-next : (d : A) (l : List A) (k : ℕ) → k < length l
+      → filter p (take (k + 1) l) ≡ filter p (take k l) ++ cond (p (getD l k d)) (getD l k d ∷ []) []
+  filter-next d l k h = ap (filter p) (rw add-one (take-suc l k d h)) ∙ filter-snoc (getD l k d) (take k l)
 
   pub keep-took : (d : A) (l : List A) (k : ℕ) → k < length l → p (getD l k d) ≡ true
-      → keep p (take (k + 1) l) ≡ keep p (take k l) ++ (getD l k d ∷ [])
-  keep-took d l k h e = keep-next d l k h ∙ ap (λ (b : Bool). keep p (take k l) ++ cond b (getD l k d ∷ []) []) e
+      → filter p (take (k + 1) l) ≡ filter p (take k l) ++ (getD l k d ∷ [])
+  keep-took d l k h e = filter-next d l k h ∙ ap (λ (b : Bool). filter p (take k l) ++ cond b (getD l k d ∷ []) []) e
 
-  pub keep-left : (d : A) (l : List A) (k : ℕ) → k < length l → p (getD l k d) ≡ false → keep p (take (k + 1) l) ≡ keep p (take k l)
-  keep-left d l k h e =
-      keep-next d l k h ∙ ap (λ (b : Bool). keep p (take k l) ++ cond b (getD l k d ∷ []) []) e ∙ append-nil (keep p (take k l))
+  pub filter-left : (d : A) (l : List A) (k : ℕ) → k < length l → p (getD l k d) ≡ false → filter p (take (k + 1) l) ≡ filter p (take k l)
+  filter-left d l k h e =
+      filter-next d l k h ∙ ap (λ (b : Bool). filter p (take k l) ++ cond b (getD l k d ∷ []) []) e ∙ append-nil (filter p (take k l))
 
-  pub keep-length : (l : List A) → length (keep p l) ≤ length l
-  unfolding keep
-  keep-length [] = omega arith
-  keep-length (x ∷ l) = let i = keep-length l in bool-cases (p x) (λ e. rw e (omega arith)) (λ e. rw e (omega arith))
+  pub filter-length : (l : List A) → length (filter p l) ≤ length l
+  unfolding filter
+  filter-length [] = omega arith
+  filter-length (x ∷ l) = let i = filter-length l in bool-cases (p x) (λ e. rw e (omega arith)) (λ e. rw e (omega arith))
 
-  pub keep-all : (l : List A) → ((x : A) → Stands x l → p x ≡ true) → keep p l ≡ l
-  unfolding keep
-  keep-all [] f = refl
-  keep-all (x ∷ l) f = rw (f x (inl refl)) (ap (λ (r : List A). x ∷ r) (keep-all l (λ y h. f y (inr h))))
+  pub filter-all : (l : List A) → ((x : A) → Member x l → p x ≡ true) → filter p l ≡ l
+  unfolding filter
+  filter-all [] f = refl
+  filter-all (x ∷ l) f = rw (f x (inl refl)) (ap (λ (r : List A). x ∷ r) (filter-all l (λ y h. f y (inr h))))
 
   module _ (compare : A → A → Order) where
-    pub above-keep : (a : A) (l : List A) → Above compare a l → Above compare a (keep p l)
-    unfolding keep
-    above-keep a [] h = tt
-    above-keep a (x ∷ l) h =
-        let i = above-keep a l (h .1) in
+    pub above-filter : (a : A) (l : List A) → Above compare a l → Above compare a (filter p l)
+    unfolding filter
+    above-filter a [] h = tt
+    above-filter a (x ∷ l) h =
+        let i = above-filter a l (h .1) in
         bool-cases (p x) (λ e. rw e (h .0, i)) (λ e. rw e i)
 
-    pub rising-keep : (l : List A) → Rising compare l → Rising compare (keep p l)
-    unfolding keep
-    rising-keep [] h = tt
-    rising-keep (x ∷ l) h =
-        let i = rising-keep l (h .1) in
-        bool-cases (p x) (λ e. rw e (above-keep x l (h .0), i)) (λ e. rw e i)
+    pub strict-filter : (l : List A) → StrictlyAscending compare l → StrictlyAscending compare (filter p l)
+    unfolding filter
+    strict-filter [] h = tt
+    strict-filter (x ∷ l) h =
+        let i = strict-filter l (h .1) in
+        bool-cases (p x) (λ e. rw e (above-filter x l (h .0), i)) (λ e. rw e i)
 
 -- ---- the first place that passes
 
 module _ {A : Type 0} (p : A → Bool) where
-  pub place-within : (l : List A) → place p l ≤ length l
-  unfolding place
-  place-within [] = omega arith
-  place-within (x ∷ l) = let i = place-within l in bool-cases (p x) (λ e. rw e (omega arith)) (λ e. rw e (omega arith))
+  pub findIndex-within : (l : List A) → findIndex p l ≤ length l
+  unfolding findIndex
+  findIndex-within [] = omega arith
+  findIndex-within (x ∷ l) = let i = findIndex-within l in bool-cases (p x) (λ e. rw e (omega arith)) (λ e. rw e (omega arith))
 
-  pub place-found : (x : A) (l : List A) → Stands x l → p x ≡ true → place p l < length l
-  unfolding place
-  place-found x [] h e = absurd h
-  place-found x (y ∷ l) h e =
+  pub findIndex-found : (x : A) (l : List A) → Member x l → p x ≡ true → findIndex p l < length l
+  unfolding findIndex
+  findIndex-found x [] h e = absurd h
+  findIndex-found x (y ∷ l) h e =
       bool-cases (p y) (λ q. rw q (omega arith))
-      (λ q. rw q (⊎-elim (λ r. absurd (clash e (ap p r ∙ q))) (λ r. let i = place-found x l r e in omega arith) h))
+      (λ q. rw q (⊎-elim (λ r. absurd (clash e (ap p r ∙ q))) (λ r. let i = findIndex-found x l r e in omega arith) h))
 
-  pub place-at : (d : A) (l : List A) → place p l < length l → p (getD l (place p l) d) ≡ true
-  unfolding place
-  place-at d [] h = absurd (not-suc-le-zero h)
-  place-at d (x ∷ l) h =
-      bool-cases (p x) (λ e. rw e e) (λ e. rw e (place-at d l (le-of-suc-le-suc (rw e at h))))
+  pub findIndex-at : (d : A) (l : List A) → findIndex p l < length l → p (getD l (findIndex p l) d) ≡ true
+  unfolding findIndex
+  findIndex-at d [] h = absurd (not-suc-le-zero h)
+  findIndex-at d (x ∷ l) h =
+      bool-cases (p x) (λ e. rw e e) (λ e. rw e (findIndex-at d l (le-of-suc-le-suc (rw e at h))))
 
-  pub place-of : (d : A) (l : List A) (k : ℕ) → k < length l → p (getD l k d) ≡ true → ((j : ℕ) → j < k → p (getD l j d) ≡ false)
-      → place p l ≡ k
-  unfolding place
-  place-of d [] k h e f = absurd (not-suc-le-zero h)
-  place-of d (x ∷ l) zero h e f = rw e
-  place-of d (x ∷ l) (suc k) h e f =
-      rw (f 0 (omega arith)) (ap suc (place-of d l k (le-of-suc-le-suc h) e (λ j i. f (suc j) (omega arith))))
+  pub findIndex-of : (d : A) (l : List A) (k : ℕ) → k < length l → p (getD l k d) ≡ true → ((j : ℕ) → j < k → p (getD l j d) ≡ false)
+      → findIndex p l ≡ k
+  unfolding findIndex
+  findIndex-of d [] k h e f = absurd (not-suc-le-zero h)
+  findIndex-of d (x ∷ l) zero h e f = rw e
+  findIndex-of d (x ∷ l) (suc k) h e f =
+      rw (f 0 (omega arith)) (ap suc (findIndex-of d l k (le-of-suc-le-suc h) e (λ j i. f (suc j) (omega arith))))
 
-  pub place-none : (l : List A) → any p l ≡ false → place p l ≡ length l
-  unfolding place any
-  place-none [] e = refl
-  place-none (x ∷ l) e =
+  pub findIndex-none : (l : List A) → any p l ≡ false → findIndex p l ≡ length l
+  unfolding findIndex any
+  findIndex-none [] e = refl
+  findIndex-none (x ∷ l) e =
       bool-cases (p x) (λ q. absurd (clash (or-l (p x) (any p l) q) e))
-      (λ q. rw q (ap suc (place-none l (not-so (any p l) (λ r. clash (or-r (p x) (any p l) r) e)))))
+      (λ q. rw q (ap suc (findIndex-none l (not-so (any p l) (λ r. clash (or-r (p x) (any p l) r) e)))))
 
 -- of a strictly ascending list, each element has one place: its own
-pub place-rising : {A : Type 0} {compare : A → A → Order} (laws : Orders compare) (same : A → A → Bool) (is : (a b : A) → (same a b ≡ true) ↔ (a ≡ b))
-    (d : A) (l : List A) (k : ℕ) → Rising compare l → k < length l → place (same (getD l k d)) l ≡ k
-place-rising {A} {compare} laws same is d l k rising h =
-    place-of (same (getD l k d)) d l k h (is (getD l k d) (getD l k d) .1 refl)
+pub findIndex-strict : {A : Type 0} {compare : A → A → Order} (laws : Orders compare) (same : A → A → Bool) (is : (a b : A) → (same a b ≡ true) ↔ (a ≡ b))
+    (d : A) (l : List A) (k : ℕ) → StrictlyAscending compare l → k < length l → findIndex (same (getD l k d)) l ≡ k
+findIndex-strict {A} {compare} laws same is d l k strict h =
+    findIndex-of (same (getD l k d)) d l k h (is (getD l k d) (getD l k d) .1 refl)
     (λ j i. not-so (same (getD l k d) (getD l j d)) (λ e.
     not-before-self laws (getD l j d)
-    (subst (λ (x : A). compare (getD l j d) x ≡ Before) (is (getD l k d) (getD l j d) .0 e) (rising-get laws d l j k rising i h))))
+    (subst (λ (x : A). compare (getD l j d) x ≡ Before) (is (getD l k d) (getD l j d) .0 e) (strict-get laws d l j k strict i h))))
 
 -- ---- distinct elements
 
@@ -214,7 +214,7 @@ module _ {A : Type 0} (same : A → A → Bool) (d : A) where
   distinct-true [] e i j h g = absurd (not-suc-le-zero g)
   distinct-true (x ∷ l) e i zero h g = absurd (not-suc-le-zero h)
   distinct-true (x ∷ l) e zero (suc j) h g =
-      any-false (same x) l (not-true (any (same x) l) (and-l (not (any (same x) l)) (distinct same l) e)) (getD l j d) (stands-get d l j (le-of-suc-le-suc g))
+      any-false (same x) l (not-true (any (same x) l) (and-l (not (any (same x) l)) (distinct same l) e)) (getD l j d) (member-get d l j (le-of-suc-le-suc g))
   distinct-true (x ∷ l) e (suc i) (suc j) h g =
       distinct-true l (and-r (not (any (same x) l)) (distinct same l) e) i j (le-of-suc-le-suc h) (le-of-suc-le-suc g)
 

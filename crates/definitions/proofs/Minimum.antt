@@ -10,9 +10,9 @@ use borrow.Author.Tests.{not-true}
 use Rattle.definitions.specs.Lists.{any}
 use Rattle.definitions.specs.OuterUnion.{compareRow}
 use Rattle.definitions.specs.MinimumUnion.{filled, subsumes, minimumRows}
-use Rattle.definitions.specs.Statements.{Stands, Rising}
+use Rattle.definitions.specs.Statements.{Member, StrictlyAscending}
 use Rattle.definitions.proofs.Bools.{bool-cases, not-so}
-use Rattle.definitions.proofs.Lists.{stands-keep, keep-stands, rising-keep, any-true, any-false, any-none}
+use Rattle.definitions.proofs.Lists.{member-filter, filter-member, strict-filter, any-true, any-false, any-none}
 use Rattle.definitions.proofs.Subsumption.{subsumes-is, subsumes-trans}
 
 module _ (rows : List (List ℕ)) where
@@ -20,28 +20,28 @@ module _ (rows : List (List ℕ)) where
   stays t = not (any (λ s. subsumes s t) rows)
 
   -- "T without the rows that some row of T subsumes"
-  pub minimum-is : (t : List ℕ) → Stands t (minimumRows rows) ↔ (Stands t rows × ((s : List ℕ) → Stands s rows → subsumes s t ≡ false))
+  pub minimum-is : (t : List ℕ) → Member t (minimumRows rows) ↔ (Member t rows × ((s : List ℕ) → Member s rows → subsumes s t ≡ false))
   unfolding minimumRows
   minimum-is t = (
-    λ h. let i = keep-stands stays t rows h in (i .0, any-false (λ s. subsumes s t) rows (not-true (any (λ s. subsumes s t) rows) (i .1))),
-    λ h. stands-keep stays t rows (h .0) (ap not (any-none (λ s. subsumes s t) rows (h .1))),
+    λ h. let i = filter-member stays t rows h in (i .0, any-false (λ s. subsumes s t) rows (not-true (any (λ s. subsumes s t) rows) (i .1))),
+    λ h. member-filter stays t rows (h .0) (ap not (any-none (λ s. subsumes s t) rows (h .1))),
   )
 
   -- "still ascending"
-  pub minimum-rise : Rising compareRow rows → Rising compareRow (minimumRows rows)
+  pub minimum-rise : StrictlyAscending compareRow rows → StrictlyAscending compareRow (minimumRows rows)
   unfolding minimumRows
-  minimum-rise h = rising-keep stays compareRow rows h
+  minimum-rise h = strict-filter stays compareRow rows h
 
   -- a row of the minimum union that is t, or subsumes it
   abbrev pub Stayer : List ℕ → Type 0
-  Stayer t = (s : List ℕ) × Stands s (minimumRows rows) × ((s ≡ t) ⊎ (subsumes s t ≡ true))
+  Stayer t = (s : List ℕ) × Member s (minimumRows rows) × ((s ≡ t) ⊎ (subsumes s t ≡ true))
 
 -- no row has more filled cells than all have together
 total : List (List ℕ) → ℕ
 total [] = 0
 total (r ∷ rows) = filled r + total rows
 
-filled-total : (rows : List (List ℕ)) (r : List ℕ) → Stands r rows → filled r ≤ total rows
+filled-total : (rows : List (List ℕ)) (r : List ℕ) → Member r rows → filled r ≤ total rows
 unfolding total
 filled-total [] r h = absurd h
 filled-total (s ∷ rows) r h =
@@ -49,7 +49,7 @@ filled-total (s ∷ rows) r h =
 
 module _ (rows : List (List ℕ)) where
   -- each subsuming row has more filled cells, so that there is a last one
-  climb : (left : ℕ) (t : List ℕ) → Stands t rows → total rows ≤ filled t + left → Stayer rows t
+  climb : (left : ℕ) (t : List ℕ) → Member t rows → total rows ≤ filled t + left → Stayer rows t
   climb zero t h b = (
     t,
     minimum-is rows t .1 (h, λ s g. not-so (subsumes s t) (λ e. let p = subsumes-is s t .0 e .0 in let q = filled-total rows s g in absurd (omega arith))),
@@ -64,5 +64,5 @@ module _ (rows : List (List ℕ)) where
       (j .0, j .1, inr (⊎-elim (λ q. rw q (i .2)) (λ q. subsumes-trans (j .0) (i .0) t q (i .2)) (j .2))))
       (λ e. (t, minimum-is rows t .1 (h, any-false (λ s. subsumes s t) rows e), inl refl))
 
-  pub every-row-stays : (t : List ℕ) → Stands t rows → Stayer rows t
+  pub every-row-stays : (t : List ℕ) → Member t rows → Stayer rows t
   every-row-stays t h = climb (total rows) t h (omega arith)

@@ -10,7 +10,7 @@ use Rattle.definitions.specs.declared.Order.{Order}
 use Rattle.definitions.specs.declared.Order.the-variants.{Before, Same, After}
 use Rattle.definitions.specs.OuterUnion.{compareWord, thenBy, compareRow}
 use Rattle.definitions.specs.ComplementUnion.{compareSet, subsets}
-use Rattle.definitions.specs.Statements.{Orders, Above, Rising}
+use Rattle.definitions.specs.Statements.{Orders, Above, StrictlyAscending}
 use Rattle.definitions.proofs.Ascending.{above-append}
 
 -- two different cases of an order
@@ -182,22 +182,22 @@ above-map m s [] h = tt
 above-map true s (t ∷ l) h = (h .0, above-map true s l (h .1))
 above-map false s (t ∷ l) h = (h .0, above-map false s l (h .1))
 
-rising-map : (m : Bool) (l : List (List Bool)) → Rising compareSet l → Rising compareSet (map (λ t. m ∷ t) l)
-rising-map m [] h = tt
-rising-map m (s ∷ l) h = (above-map m s l (h .0), rising-map m l (h .1))
+strict-map : (m : Bool) (l : List (List Bool)) → StrictlyAscending compareSet l → StrictlyAscending compareSet (map (λ t. m ∷ t) l)
+strict-map m [] h = tt
+strict-map m (s ∷ l) h = (above-map m s l (h .0), strict-map m l (h .1))
 
 above-other : (s : List Bool) (l : List (List Bool)) → Above compareSet (true ∷ s) (map (λ t. false ∷ t) l)
 unfolding compareSet
 above-other s [] = tt
 above-other s (t ∷ l) = (refl, above-other s l)
 
-rising-both : (l k : List (List Bool)) → Rising compareSet l → Rising compareSet k
-    → Rising compareSet (map (λ t. true ∷ t) l ++ map (λ t. false ∷ t) k)
-rising-both [] k h g = rising-map false k g
-rising-both (s ∷ l) k h g =
-    (above-append sets (true ∷ s) (map (λ t. true ∷ t) l) (map (λ t. false ∷ t) k) (above-map true s l (h .0)) (above-other s k), rising-both l k (h .1) g)
+strict-both : (l k : List (List Bool)) → StrictlyAscending compareSet l → StrictlyAscending compareSet k
+    → StrictlyAscending compareSet (map (λ t. true ∷ t) l ++ map (λ t. false ∷ t) k)
+strict-both [] k h g = strict-map false k g
+strict-both (s ∷ l) k h g =
+    (above-append sets (true ∷ s) (map (λ t. true ∷ t) l) (map (λ t. false ∷ t) k) (above-map true s l (h .0)) (above-other s k), strict-both l k (h .1) g)
 
-pub subsets-rise : (n : ℕ) → Rising compareSet (subsets n)
+pub subsets-rise : (n : ℕ) → StrictlyAscending compareSet (subsets n)
 unfolding subsets
 subsets-rise zero = (tt, tt)
-subsets-rise (suc n) = rising-both (subsets n) (subsets n) (subsets-rise n) (subsets-rise n)
+subsets-rise (suc n) = strict-both (subsets n) (subsets n) (subsets-rise n) (subsets-rise n)

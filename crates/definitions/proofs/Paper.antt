@@ -6,13 +6,13 @@ use mathlib.Core.Option.{Option, none, some}
 use Prim.Native.Nat.{ℕ, _+_, _*_}
 use lib.Dec.{eqb}
 use lib.ListN.{length, getD}
-use Rattle.definitions.specs.Lists.{all, any, keep, place, distinct, allBelow, sumBelow}
+use Rattle.definitions.specs.Lists.{all, any, filter, findIndex, distinct, allBelow, sumBelow}
 use Rattle.definitions.specs.Word.{wordOf}
 use Rattle.definitions.specs.Image.{imageOf, imageRows}
 use Rattle.definitions.specs.Ascending.{insert, ascending}
 use Rattle.definitions.specs.OuterUnion.{compareRow, unionIds, widened, widenedRows, unionRows}
 use Rattle.definitions.specs.MinimumUnion.{filled, covers, subsumes, minimumRows}
-use Rattle.definitions.specs.ComplementUnion.{sameRow, agree, share, complement, marked, subsets, nearAll, isComplementing, isMaximal, maximalSets, members, join, joinAll, joined, unionSets, fusedRows}
+use Rattle.definitions.specs.ComplementUnion.{sameRow, agree, share, complement, contains, subsets, adjacentToAll, isComplementing, isMaximal, maximalSets, members, join, joinAll, joined, unionSets, fusedRows}
 use Rattle.definitions.specs.SetList.{bits, marksFrom, setRecord, setList}
 use Rattle.definitions.specs.Questions.{imageNumber}
 use Rattle.definitions.specs.Answer.{Outcome, done, refused}
@@ -293,8 +293,8 @@ right c =
     && ifSaid (againRight c) (c .again)
 
 paper : all right cases ≡ true
-unfolding pairRight firstRow hasRows againRight counts right all any keep place distinct allBelow sumBelow imageOf flatten insert ascending
-    compareRow unionIds widened widenedRows unionRows filled covers subsumes minimumRows sameRow agree share complement marked subsets
-    nearAll isComplementing isMaximal maximalSets members join joinAll joined unionSets fusedRows bits marksFrom setRecord setList
+unfolding pairRight firstRow hasRows againRight counts right all any filter findIndex distinct allBelow sumBelow imageOf flatten insert ascending
+    compareRow unionIds widened widenedRows unionRows filled covers subsumes minimumRows sameRow agree share complement contains subsets
+    adjacentToAll isComplementing isMaximal maximalSets members join joinAll joined unionSets fusedRows bits marksFrom setRecord setList
     imageNumber pairNumber outerImage minimumImage fusedImage complementOutcome
 paper = refl

@@ -11,14 +11,14 @@ use lib.ListN.{length, getD, take, drop, length-map}
 use lib.Seq.{drop-cons}
 use Rattle.definitions.specs.Limits.{markWords, setWidth, maxUnionRows, maxSets}
 use Rattle.definitions.specs.Image.{rowsIn}
-use Rattle.definitions.specs.ComplementUnion.{marked, complementAt, unionSets, fusedRows}
-use Rattle.definitions.specs.SetList.{fusedPlace, setRecord, setList}
-use Rattle.definitions.specs.Reading.{below, setCount, recordsIn, wordMarks, markAt, marksIn, setIn, positionsOf, placeIn}
-use Rattle.definitions.specs.Statements.{Stands}
-use Rattle.definitions.proofs.Lists.{map-stands}
-use Rattle.definitions.proofs.Sets.{marked-get, holds-within, listed-is}
+use Rattle.definitions.specs.ComplementUnion.{contains, complementAt, unionSets, fusedRows}
+use Rattle.definitions.specs.SetList.{fusedPosition, setRecord, setList}
+use Rattle.definitions.specs.Reading.{below, setCount, recordsIn, wordMarks, markAt, marksIn, setIn, positionsOf, positionIn}
+use Rattle.definitions.specs.Statements.{Member}
+use Rattle.definitions.proofs.Lists.{map-member}
+use Rattle.definitions.proofs.Sets.{contains-get, holds-within, listed-is}
 use Rattle.definitions.proofs.Counts.{record-length, fused-count}
-use Rattle.definitions.proofs.SetWords.{mark-bit, row-word, fused-place-within}
+use Rattle.definitions.proofs.SetWords.{mark-bit, row-word, fused-position-within}
 use Rattle.definitions.proofs.Images.{header-rows, rows-read}
 
 -- ---- f 0, f 1, .. f (n - 1)
@@ -59,8 +59,8 @@ module _ (n : ℕ) (words : List ℕ) where
 -- ---- positions
 
 -- the positions of n marks that are told by a set: those of the set, if it has no more than n marks
-positions-below : (n from : ℕ) (s : List Bool) → length s ≤ n → positionsOf from (below n (λ k. marked s k)) ≡ positionsOf from s
-unfolding below positionsOf marked
+positions-below : (n from : ℕ) (s : List Bool) → length s ≤ n → positionsOf from (below n (λ k. contains s k)) ≡ positionsOf from s
+unfolding below positionsOf contains
 positions-below zero from [] h = refl
 positions-below zero from (m ∷ s) h = absurd (not-suc-le-zero h)
 positions-below (suc n) from [] h = positions-below n (suc from) [] (omega arith)
@@ -72,24 +72,24 @@ one-marks true = refl
 one-marks false = refl
 
 module _ (t : List (List ℕ)) (s : List Bool) where
-  mark-read : (p : ℕ) → p < wordMarks * markWords → markAt (setRecord t s) p ≡ marked s p
+  mark-read : (p : ℕ) → p < wordMarks * markWords → markAt (setRecord t s) p ≡ contains s p
   mark-read p h =
       let i : p / 30 < markWords = omega arith in
       let j : p % 30 < 30 = omega arith in
       let e : 30 * (p / 30) + p % 30 ≡ p = omega arith in
       ap (λ (x : ℕ). eqb x 1) (mark-bit t s (p / 30) (p % 30) i j)
-      ∙ one-marks (marked s (30 * (p / 30) + p % 30))
-      ∙ ap (marked s) e
+      ∙ one-marks (contains s (30 * (p / 30) + p % 30))
+      ∙ ap (contains s) e
 
   -- the record of a set marks its positions
   pub positions-read : length s ≤ maxUnionRows → positionsOf 0 (setIn markWords (setRecord t s)) ≡ positionsOf 0 s
   unfolding marksIn
   positions-read h =
-      ap (positionsOf 0) (below-ext (wordMarks * markWords) (markAt (setRecord t s)) (λ k. marked s k) mark-read)
+      ap (positionsOf 0) (below-ext (wordMarks * markWords) (markAt (setRecord t s)) (λ k. contains s k) mark-read)
       ∙ positions-below (wordMarks * markWords) 0 s (omega arith)
 
   -- and names the place of its joined row
-  pub place-read : fusedPlace t s < maxSets → placeIn markWords (setRecord t s) ≡ fusedPlace t s
+  pub place-read : fusedPosition t s < maxSets → positionIn markWords (setRecord t s) ≡ fusedPosition t s
   place-read h = ap (λ (w : ℕ). w % 2 ^ 30) (row-word t s) ∙ omega arith
 
 -- ---- a set list at the front of a buffer
@@ -106,12 +106,12 @@ module _ (t : List (List ℕ)) (rest : List ℕ) where
       ap (λ (n : ℕ). rowsIn setWidth n (flatten (map (setRecord t) (unionSets t)) ++ rest))
       (sym (length-map (unionSets t) (setRecord t)))
       ∙ rows-read setWidth (map (setRecord t) (unionSets t)) rest
-      (λ r h. let i = map-stands (setRecord t) r (unionSets t) h in ap (λ (l : List ℕ). length l) (i .2) ∙ record-length t (i .0))
+      (λ r h. let i = map-member (setRecord t) r (unionSets t) h in ap (λ (l : List ℕ). length l) (i .2) ∙ record-length t (i .0))
 
   -- a listed set has a mark for each row
-  pub listed-length : (s : List Bool) → Stands s (unionSets t) → length s ≡ length t
+  pub listed-length : (s : List Bool) → Member s (unionSets t) → length s ≡ length t
   unfolding unionSets
   listed-length s h = listed-is (complementAt t) (length t) s .0 h .complementing .size
 
-  pub listed-place : length (unionSets t) ≤ maxSets → (s : List Bool) → Stands s (unionSets t) → fusedPlace t s < maxSets
-  listed-place few s h = omega (arith, fused-place-within t s h, fused-count t)
+  pub listed-place : length (unionSets t) ≤ maxSets → (s : List Bool) → Member s (unionSets t) → fusedPosition t s < maxSets
+  listed-place few s h = omega (arith, fused-position-within t s h, fused-count t)

@@ -10,13 +10,13 @@ use lib.ListN.{length, getD, take, drop, List·getD-append}
 use lib.Pow.{pow-pos, pow-add, shr-shr, split}
 use lib.Seq.{take-at, drop-at, drop-drop, getD-at}
 use Rattle.definitions.specs.Limits.{markWords, setWidth}
-use Rattle.definitions.specs.Lists.{place}
+use Rattle.definitions.specs.Lists.{findIndex}
 use Rattle.definitions.specs.Word.{wordOf}
-use Rattle.definitions.specs.ComplementUnion.{sameRow, marked, joined, unionSets, fusedRows}
-use Rattle.definitions.specs.SetList.{bits, marksFrom, fusedPlace, setRecord, setList}
-use Rattle.definitions.specs.Statements.{Stands}
+use Rattle.definitions.specs.ComplementUnion.{sameRow, contains, joined, unionSets, fusedRows}
+use Rattle.definitions.specs.SetList.{bits, marksFrom, fusedPosition, setRecord, setList}
+use Rattle.definitions.specs.Statements.{Member}
 use Rattle.definitions.proofs.Orders.{rows}
-use Rattle.definitions.proofs.Lists.{place-found, place-at, place-rising}
+use Rattle.definitions.proofs.Lists.{findIndex-found, findIndex-at, findIndex-strict}
 use Rattle.definitions.proofs.Rows.{same-is}
 use Rattle.definitions.proofs.Unions.{fused-rise, fused-are}
 use Rattle.definitions.proofs.Counts.{marks-length, record-length}
@@ -45,24 +45,24 @@ module _ (t : List (List ℕ)) where
       ∙ record-at (setRecord t) setWidth (record-length t) [] (unionSets t) k h
 
   -- "and one of kind 1 with the joined row's position in the fused table"
-  pub row-word : (s : List Bool) → getD (setRecord t s) markWords 0 ≡ wordOf 1 (fusedPlace t s)
+  pub row-word : (s : List Bool) → getD (setRecord t s) markWords 0 ≡ wordOf 1 (fusedPosition t s)
   unfolding setRecord
-  row-word s = getD-at (marksFrom markWords (bits s)) (wordOf 1 (fusedPlace t s)) [] 0 markWords (marks-length markWords (bits s))
+  row-word s = getD-at (marksFrom markWords (bits s)) (wordOf 1 (fusedPosition t s)) [] 0 markWords (marks-length markWords (bits s))
 
   -- the joined row of a listed set stands in its place
-  module _ (s : List Bool) (h : Stands s (unionSets t)) where
-    pub fused-place-within : fusedPlace t s < length (fusedRows t)
-    fused-place-within =
-        place-found (sameRow (joined t s)) (joined t s) (fusedRows t) (fused-are t (joined t s) .1 (s, h, refl)) (same-is (joined t s) (joined t s) .1 refl)
+  module _ (s : List Bool) (h : Member s (unionSets t)) where
+    pub fused-position-within : fusedPosition t s < length (fusedRows t)
+    fused-position-within =
+        findIndex-found (sameRow (joined t s)) (joined t s) (fusedRows t) (fused-are t (joined t s) .1 (s, h, refl)) (same-is (joined t s) (joined t s) .1 refl)
 
-    pub fused-place-at : getD (fusedRows t) (fusedPlace t s) [] ≡ joined t s
+    pub fused-place-at : getD (fusedRows t) (fusedPosition t s) [] ≡ joined t s
     fused-place-at =
-        sym (same-is (joined t s) (getD (fusedRows t) (fusedPlace t s) []) .0 (place-at (sameRow (joined t s)) [] (fusedRows t) fused-place-within))
+        sym (same-is (joined t s) (getD (fusedRows t) (fusedPosition t s) []) .0 (findIndex-at (sameRow (joined t s)) [] (fusedRows t) fused-position-within))
 
   -- and in no other
-  pub fused-place-of : (s : List Bool) (k : ℕ) → k < length (fusedRows t) → getD (fusedRows t) k [] ≡ joined t s → fusedPlace t s ≡ k
+  pub fused-place-of : (s : List Bool) (k : ℕ) → k < length (fusedRows t) → getD (fusedRows t) k [] ≡ joined t s → fusedPosition t s ≡ k
   fused-place-of s k h e =
-      ap (λ (r : List ℕ). place (sameRow r) (fusedRows t)) (sym e) ∙ place-rising rows sameRow same-is [] (fusedRows t) k (fused-rise t) h
+      ap (λ (r : List ℕ). findIndex (sameRow r) (fusedRows t)) (sym e) ∙ findIndex-strict rows sameRow same-is [] (fusedRows t) k (fused-rise t) h
 
 -- ---- marks
 
@@ -75,8 +75,8 @@ bit-high true x = omega arith
 bit-high false x = omega arith
 
 -- bit k of a set's number marks position k
-pub bit-marks : (s : List Bool) (k : ℕ) → bits s / 2 ^ k % 2 ≡ cond (marked s k) 1 0
-unfolding bits marked
+pub bit-marks : (s : List Bool) (k : ℕ) → bits s / 2 ^ k % 2 ≡ cond (contains s k) 1 0
+unfolding bits contains
 bit-marks [] k = ap (λ (x : ℕ). x % 2) (zero-div (2 ^ k))
 bit-marks (m ∷ s) zero = ap (λ (x : ℕ). x % 2) (div-one (cond m 1 0 + 2 * bits s)) ∙ bit-low m (bits s)
 bit-marks (m ∷ s) (suc k) =
@@ -107,13 +107,13 @@ mark-word (suc n) set (suc i) h =
     ∙ ap (λ (x : ℕ). wordOf 2 (x % 2 ^ 30)) (shr-shr set 30 (30 * i) ∙ ap (λ (k : ℕ). set / 2 ^ k) e)
 
 -- "three of kind 2 whose low 30 bits mark positions 0–29, 30–59 and 60–63 (lowest bit first ..)"
-pub mark-bit : (t : List (List ℕ)) (s : List Bool) (i j : ℕ) → i < markWords → j < 30 → getD (setRecord t s) i 0 / 2 ^ j % 2 ≡ cond (marked s (30 * i + j)) 1 0
+pub mark-bit : (t : List (List ℕ)) (s : List Bool) (i j : ℕ) → i < markWords → j < 30 → getD (setRecord t s) i 0 / 2 ^ j % 2 ≡ cond (contains s (30 * i + j)) 1 0
 unfolding setRecord
 mark-bit t s i j h g =
     let x = bits s / 2 ^ (30 * i) in
     let e : suc (29 - j) + j ≡ 30 = omega arith in
     ap (λ (w : ℕ). w / 2 ^ j % 2)
-    (List·getD-append (marksFrom markWords (bits s)) (wordOf 1 (fusedPlace t s) ∷ []) 0 i (rw (marks-length markWords (bits s)) h) ∙ mark-word markWords (bits s) i h)
+    (List·getD-append (marksFrom markWords (bits s)) (wordOf 1 (fusedPosition t s) ∷ []) 0 i (rw (marks-length markWords (bits s)) h) ∙ mark-word markWords (bits s) i h)
     ∙ low-bit 2 (x % 2 ^ 30) j (29 - j) 30 e
     ∙ sym (low-bit (x / 2 ^ 30) (x % 2 ^ 30) j (29 - j) 30 e)
     ∙ ap (λ (y : ℕ). y / 2 ^ j % 2) (split x 30)

@@ -12,28 +12,28 @@ use Rattle.definitions.specs.Limits.{maxColumns, maxUnionRows, maxSets}
 use Rattle.definitions.specs.Word.{columnsOf, headerWord, idOf, columnWord}
 use Rattle.definitions.specs.Image.{columnCount, rowCount, columnWords, imageIds, cellWords, rowsIn, imageRows, imageOf}
 use Rattle.definitions.specs.OuterUnion.{unionIds, unionRows}
-use Rattle.definitions.specs.Statements.{Stands}
-use Rattle.definitions.proofs.Lists.{map-stands}
+use Rattle.definitions.specs.Statements.{Member}
+use Rattle.definitions.proofs.Lists.{map-member}
 use Rattle.definitions.proofs.Counts.{image-length}
 use Rattle.definitions.proofs.Unions.{ids-are}
 use Rattle.definitions.proofs.Images.{header-rows, image-ids, image-rows-front}
 
 -- the ids of a union are those of column words
-pub small-ids : (a b : List ℕ) (id : ℕ) → Stands id (unionIds a b) → id < 2 ^ 16
+pub small-ids : (a b : List ℕ) (id : ℕ) → Member id (unionIds a b) → id < 2 ^ 16
 small-ids a b id h = ⊎-elim (small a) (small b) (ids-are a b id .0 h)
   where
-    small : (image : List ℕ) → Stands id (imageIds image) → id < 2 ^ 16
+    small : (image : List ℕ) → Member id (imageIds image) → id < 2 ^ 16
     small image k =
-        let m = map-stands idOf id (columnWords image) k in
+        let m = map-member idOf id (columnWords image) k in
         let l : m .0 % 2 ^ 16 < 2 ^ 16 = mod-lt (m .0) (lit< tt) in
         subst (λ (x : ℕ). x < 2 ^ 16) (sym (m .2)) l
 
 -- a table that may stand in an image
 pub record Table (ids : List ℕ) (rows : List (List ℕ)) : Type 0 where
   pub few-ids : length ids ≤ maxColumns
-  pub small-id : (id : ℕ) → Stands id ids → id < 2 ^ 16
+  pub small-id : (id : ℕ) → Member id ids → id < 2 ^ 16
   pub few-rows : length rows ≤ maxSets
-  pub even : (r : List ℕ) → Stands r rows → length r ≡ length ids
+  pub even : (r : List ℕ) → Member r rows → length r ≡ length ids
 
 module _ (ids : List ℕ) (rows : List (List ℕ)) (t : Table ids rows) (rest : List ℕ) where
   abbrev image : List ℕ
@@ -72,6 +72,6 @@ module _ (ids : List ℕ) (rows : List (List ℕ)) (t : Table ids rows) (rest : 
       omega (arith, size, image-length ids rows (t .even), length-append image rest)
 
 -- the words of a table within limits
-pub table-words : (ids : List ℕ) (rows : List (List ℕ)) (n : ℕ) → ((r : List ℕ) → Stands r rows → length r ≡ length ids)
+pub table-words : (ids : List ℕ) (rows : List (List ℕ)) (n : ℕ) → ((r : List ℕ) → Member r rows → length r ≡ length ids)
     → length ids ≤ maxColumns → length rows ≤ n → length (imageOf ids rows) ≤ 1 + maxColumns + n * maxColumns
 table-words ids rows n even few most = omega (arith, image-length ids rows even, mul-le-mul most few)

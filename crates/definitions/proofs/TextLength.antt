@@ -13,7 +13,7 @@ use Rattle.definitions.specs.Limits.{maxColumns, maxRows, maxUnionRows, 
 use Rattle.definitions.specs.OuterUnion.{unionIds, unionRows}
 use Rattle.definitions.specs.MinimumUnion.{filled, minimumRows, pairsTried}
 use Rattle.definitions.specs.ComplementUnion.{unionSets, fusedRows}
-use Rattle.definitions.specs.SetList.{fusedPlace, setList}
+use Rattle.definitions.specs.SetList.{fusedPosition, setList}
 use Rattle.definitions.specs.Questions.{ask, hasHeader, columnsFit, rowsFit, lengthFits}
 use Rattle.definitions.specs.Questions.{columnsRight, idsDistinct, cellsRight, imageNumber}
 use Rattle.definitions.specs.Answer.{Outcome, done, refused, unless, no}
@@ -25,7 +25,7 @@ use Rattle.definitions.specs.Listing.{rowLine, setLine, raggedLine}
 use Rattle.definitions.specs.Program.{rowLines, setLines, unionText, minimumText, setsText, fusedText, listing}
 use Rattle.definitions.specs.Program.{maxBytes, wordsOf, lentTable, lentSets, answered, unionsText, readText, fuseText}
 use Rattle.definitions.specs.Program.{rowBytes, setBytes, maxText}
-use Rattle.definitions.specs.Statements.{Stands}
+use Rattle.definitions.specs.Statements.{Member}
 use Rattle.definitions.proofs.Bools.{bool-cases}
 use Rattle.definitions.proofs.Subsumption.{empties, filled-empties}
 use Rattle.definitions.proofs.Minimum.{minimum-is}
@@ -41,7 +41,7 @@ use Rattle.definitions.proofs.Lines.{set-bound, positions-count, positi
 -- ---- the listing of an accepted pair
 
 -- the rows of a table of c columns
-module _ (c : ℕ) (rows : List (List ℕ)) (even : (r : List ℕ) → Stands r rows → length r ≡ c) (few : c ≤ maxColumns) where
+module _ (c : ℕ) (rows : List (List ℕ)) (even : (r : List ℕ) → Member r rows → length r ≡ c) (few : c ≤ maxColumns) where
   rows-bound : length (rowLines rows) ≤ rowBytes * length rows
   rows-bound =
       let short = at-most-map rowBytes rowLine rows (λ r s. omega (arith, row-bound r, even r s)) in
@@ -51,7 +51,7 @@ module _ (c : ℕ) (rows : List (List ℕ)) (even : (r : List ℕ) → Stands r 
   filled-small : length rows ≤ maxSets → filled (flatten rows) < 10 ^ 5
   filled-small most = omega (arith, filled-empties (flatten rows), flatten-length c rows even, mul-le-mul most few)
 
-two : (x y : ℕ) → x < 10 ^ 5 → y < 10 ^ 5 → (z : ℕ) → Stands z (x ∷ y ∷ []) → z < 10 ^ 5
+two : (x y : ℕ) → x < 10 ^ 5 → y < 10 ^ 5 → (z : ℕ) → Member z (x ∷ y ∷ []) → z < 10 ^ 5
 two x y p q z h = ⊎-elim (λ e. omega arith) (λ k. ⊎-elim (λ e. omega arith) (λ n. absurd n) k) h
 
 module _ (a b : List ℕ) (room setRoom : ℕ) (values : List ℕ) (d : ComplementDone a b room setRoom values) where
@@ -61,7 +61,7 @@ module _ (a b : List ℕ) (room setRoom : ℕ) (values : List ℕ) (d : Compleme
   abbrev c : ℕ
   c = length (unionIds a b)
 
-  minimum-even : (r : List ℕ) → Stands r (minimumRows T) → length r ≡ c
+  minimum-even : (r : List ℕ) → Member r (minimumRows T) → length r ≡ c
   minimum-even r h = rows-even a b r (minimum-is T r .0 h .0)
 
   union-bound : length (unionText a b) ≤ 104 + 18 + rowBytes * maxUnionRows
@@ -88,7 +88,7 @@ module _ (a b : List ℕ) (room setRoom : ℕ) (values : List ℕ) (d : Compleme
       let fewer = minimum-count T in
       let less : length T - 1 ≤ maxUnionRows = omega arith in
       let pairs : pairsTried T < 10 ^ 5 = omega (arith, pairs-bound T, mul-le-mul most less) in
-      let numbers : (n : ℕ) → Stands n (length M ∷ filled (flatten M) ∷ pairsTried T ∷ []) → n < 10 ^ 5 =
+      let numbers : (n : ℕ) → Member n (length M ∷ filled (flatten M) ∷ pairsTried T ∷ []) → n < 10 ^ 5 =
       λ n h. ⊎-elim (λ e. omega arith)
       (two (filled (flatten M)) (pairsTried T) (filled-small c M minimum-even few (omega arith)) pairs n) h in
       let title = title-bound (ascii "minimum") (length M ∷ filled (flatten M) ∷ pairsTried T ∷ []) numbers in
@@ -101,13 +101,13 @@ module _ (a b : List ℕ) (room setRoom : ℕ) (values : List ℕ) (d : Compleme
       let few = d .few-sets in
       let sets = unionSets T in
       let title = title-bound (ascii "sets") (length sets ∷ []) (λ n h. ⊎-elim (λ e. omega arith) (λ k. absurd k) h) in
-      let one : (s : List Bool) → Stands s sets → length (setLine (positionsOf 0 s) (fusedPlace T s)) ≤ setBytes =
+      let one : (s : List Bool) → Member s sets → length (setLine (positionsOf 0 s) (fusedPosition T s)) ≤ setBytes =
       λ s h.
       let size = listed-length T [] s h in
-      let small : (p : ℕ) → Stands p (positionsOf 0 s) → p < 10 ^ 2 = λ p k. omega (arith, positions-small 0 s p k) in
-      let place = set-bound (positionsOf 0 s) (fusedPlace T s) small (omega (arith, listed-place T [] few s h)) in
+      let small : (p : ℕ) → Member p (positionsOf 0 s) → p < 10 ^ 2 = λ p k. omega (arith, positions-small 0 s p k) in
+      let place = set-bound (positionsOf 0 s) (fusedPosition T s) small (omega (arith, listed-place T [] few s h)) in
       omega (arith, place, positions-count 0 s) in
-      let line-of : List Bool → List ℕ = λ s. setLine (positionsOf 0 s) (fusedPlace T s) in
+      let line-of : List Bool → List ℕ = λ s. setLine (positionsOf 0 s) (fusedPosition T s) in
       let lines = flatten-bound setBytes (map line-of sets) (at-most-map setBytes line-of sets one) in
       omega (arith, length-append (setsTitle (length sets)) (setLines T sets), lines, length-map sets line-of)
 

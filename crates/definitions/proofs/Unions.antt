@@ -13,10 +13,10 @@ use Rattle.definitions.specs.OuterUnion.{compareWord, compareRow, unionI
 use Rattle.definitions.specs.MinimumUnion.{minimumRows}
 use Rattle.definitions.specs.ComplementUnion.{complementAt, joined, unionSets, fusedRows}
 use Rattle.definitions.specs.Calls.{outerImage, minimumImage, fusedImage}
-use Rattle.definitions.specs.Statements.{Stands, Orders, Rising}
-use Rattle.definitions.proofs.Ascending.{stands-split, stands-join, is-rising, ascending-has, ascending-only, determined}
+use Rattle.definitions.specs.Statements.{Member, Orders, StrictlyAscending}
+use Rattle.definitions.proofs.Ascending.{member-split, member-join, is-strict, ascending-has, ascending-only, determined}
 use Rattle.definitions.proofs.Orders.{words, rows}
-use Rattle.definitions.proofs.Lists.{stands-map, map-stands}
+use Rattle.definitions.proofs.Lists.{member-map, map-member}
 use Rattle.definitions.proofs.Sets.{listed-is}
 use Rattle.definitions.proofs.Joined.{joined-length}
 use Rattle.definitions.proofs.Minimum.{minimum-is}
@@ -25,37 +25,37 @@ use Rattle.definitions.proofs.Counts.{image-length}
 -- ---- over any order
 
 module _ {A : Type 0} {compare : A → A → Order} (laws : Orders compare) where
-  pub ascending-are : (l : List A) (x : A) → Stands x (ascending compare l) ↔ Stands x l
+  pub ascending-are : (l : List A) (x : A) → Member x (ascending compare l) ↔ Member x l
   ascending-are l x = (ascending-only laws x l, ascending-has laws x l)
 
   -- no other strictly ascending list has these elements
-  pub ascending-alone : (l t : List A) → Rising compare t → ((x : A) → Stands x t ↔ Stands x l) → t ≡ ascending compare l
+  pub ascending-alone : (l t : List A) → StrictlyAscending compare t → ((x : A) → Member x t ↔ Member x l) → t ≡ ascending compare l
   ascending-alone l t h f =
-      determined laws t (ascending compare l) h (is-rising laws l)
+      determined laws t (ascending compare l) h (is-strict laws l)
       (λ x k. ascending-has laws x l (f x .0 k)) (λ x k. f x .1 (ascending-only laws x l k))
 
-  pub both-are : (l m : List A) (x : A) → Stands x (ascending compare (l ++ m)) ↔ (Stands x l ⊎ Stands x m)
+  pub both-are : (l m : List A) (x : A) → Member x (ascending compare (l ++ m)) ↔ (Member x l ⊎ Member x m)
   both-are l m x = (
-    λ h. stands-split x l m (ascending-only laws x (l ++ m) h),
-    λ h. ascending-has laws x (l ++ m) (stands-join x l m h),
+    λ h. member-split x l m (ascending-only laws x (l ++ m) h),
+    λ h. ascending-has laws x (l ++ m) (member-join x l m h),
   )
 
-  both-alone : (l m t : List A) → Rising compare t → ((x : A) → Stands x t ↔ (Stands x l ⊎ Stands x m)) → t ≡ ascending compare (l ++ m)
+  both-alone : (l m t : List A) → StrictlyAscending compare t → ((x : A) → Member x t ↔ (Member x l ⊎ Member x m)) → t ≡ ascending compare (l ++ m)
   both-alone l m t h f =
-      ascending-alone (l ++ m) t h (λ x. (λ k. stands-join x l m (f x .0 k), λ k. f x .1 (stands-split x l m k)))
+      ascending-alone (l ++ m) t h (λ x. (λ k. member-join x l m (f x .0 k), λ k. f x .1 (member-split x l m k)))
 
 module _ (a b : List ℕ) where
   -- ---- "Its columns are the ids of both tables, ascending, each once."
 
-  pub ids-rise : Rising compareWord (unionIds a b)
+  pub ids-rise : StrictlyAscending compareWord (unionIds a b)
   unfolding unionIds
-  ids-rise = is-rising words (imageIds a ++ imageIds b)
+  ids-rise = is-strict words (imageIds a ++ imageIds b)
 
-  pub ids-are : (id : ℕ) → Stands id (unionIds a b) ↔ (Stands id (imageIds a) ⊎ Stands id (imageIds b))
+  pub ids-are : (id : ℕ) → Member id (unionIds a b) ↔ (Member id (imageIds a) ⊎ Member id (imageIds b))
   unfolding unionIds
   ids-are id = both-are words (imageIds a) (imageIds b) id
 
-  pub ids-alone : (t : List ℕ) → Rising compareWord t → ((id : ℕ) → Stands id t ↔ (Stands id (imageIds a) ⊎ Stands id (imageIds b))) → t ≡ unionIds a b
+  pub ids-alone : (t : List ℕ) → StrictlyAscending compareWord t → ((id : ℕ) → Member id t ↔ (Member id (imageIds a) ⊎ Member id (imageIds b))) → t ≡ unionIds a b
   unfolding unionIds
   ids-alone t h f = both-alone words (imageIds a) (imageIds b) t h f
 
@@ -63,21 +63,21 @@ module _ (a b : List ℕ) where
 
   -- a row of an image, with empty cells in the columns that its table lacks
   abbrev pub WidenedOf : List ℕ → List ℕ → Type 0
-  WidenedOf image r = (row : List ℕ) × Stands row (imageRows image) × (r ≡ widened (unionIds a b) (imageIds image) row)
+  WidenedOf image r = (row : List ℕ) × Member row (imageRows image) × (r ≡ widened (unionIds a b) (imageIds image) row)
 
-  widened-are : (image r : List ℕ) → Stands r (widenedRows (unionIds a b) image) ↔ WidenedOf image r
+  widened-are : (image r : List ℕ) → Member r (widenedRows (unionIds a b) image) ↔ WidenedOf image r
   unfolding widenedRows
   widened-are image r = (
-    map-stands (widened (unionIds a b) (imageIds image)) r (imageRows image),
-    λ i. subst (λ (x : List ℕ). Stands x (map (widened (unionIds a b) (imageIds image)) (imageRows image))) (sym (i .2))
-        (stands-map (widened (unionIds a b) (imageIds image)) (i .0) (imageRows image) (i .1)),
+    map-member (widened (unionIds a b) (imageIds image)) r (imageRows image),
+    λ i. subst (λ (x : List ℕ). Member x (map (widened (unionIds a b) (imageIds image)) (imageRows image))) (sym (i .2))
+        (member-map (widened (unionIds a b) (imageIds image)) (i .0) (imageRows image) (i .1)),
   )
 
-  pub rows-rise : Rising compareRow (unionRows a b)
+  pub rows-rise : StrictlyAscending compareRow (unionRows a b)
   unfolding unionRows
-  rows-rise = is-rising rows (widenedRows (unionIds a b) a ++ widenedRows (unionIds a b) b)
+  rows-rise = is-strict rows (widenedRows (unionIds a b) a ++ widenedRows (unionIds a b) b)
 
-  pub rows-are : (r : List ℕ) → Stands r (unionRows a b) ↔ (WidenedOf a r ⊎ WidenedOf b r)
+  pub rows-are : (r : List ℕ) → Member r (unionRows a b) ↔ (WidenedOf a r ⊎ WidenedOf b r)
   unfolding unionRows
   rows-are r = (
     λ h. ⊎-elim (λ p. inl (widened-are a r .0 p)) (λ p. inr (widened-are b r .0 p)) (both-are rows (widenedRows (unionIds a b) a) (widenedRows (unionIds a b) b) r .0 h),
@@ -85,7 +85,7 @@ module _ (a b : List ℕ) where
         (⊎-elim (λ p. inl (widened-are a r .1 p)) (λ p. inr (widened-are b r .1 p)) h),
   )
 
-  pub rows-alone : (t : List (List ℕ)) → Rising compareRow t → ((r : List ℕ) → Stands r t ↔ (WidenedOf a r ⊎ WidenedOf b r)) → t ≡ unionRows a b
+  pub rows-alone : (t : List (List ℕ)) → StrictlyAscending compareRow t → ((r : List ℕ) → Member r t ↔ (WidenedOf a r ⊎ WidenedOf b r)) → t ≡ unionRows a b
   rows-alone t h f =
       determined rows t (unionRows a b) h rows-rise (λ r k. rows-are r .1 (f r .0 k)) (λ r k. f r .1 (rows-are r .0 k))
 
@@ -95,7 +95,7 @@ module _ (a b : List ℕ) where
       ap (λ (l : List ℕ). length l) (i .2) ∙ length-map (unionIds a b) (cellIn (imageIds image) (i .0))
 
   -- every row of T has a cell for each column of the union
-  pub rows-even : (r : List ℕ) → Stands r (unionRows a b) → length r ≡ length (unionIds a b)
+  pub rows-even : (r : List ℕ) → Member r (unionRows a b) → length r ≡ length (unionIds a b)
   rows-even r h = ⊎-elim (widened-length a r) (widened-length b r) (rows-are r .0 h)
 
 -- ---- "The fused table holds the distinct joined rows, ascending."
@@ -103,26 +103,26 @@ module _ (a b : List ℕ) where
 module _ (t : List (List ℕ)) where
   -- the joined row of a listed set
   abbrev pub JoinedOf : List ℕ → Type 0
-  JoinedOf r = (s : List Bool) × Stands s (unionSets t) × (r ≡ joined t s)
+  JoinedOf r = (s : List Bool) × Member s (unionSets t) × (r ≡ joined t s)
 
-  pub fused-rise : Rising compareRow (fusedRows t)
+  pub fused-rise : StrictlyAscending compareRow (fusedRows t)
   unfolding fusedRows
-  fused-rise = is-rising rows (map (joined t) (unionSets t))
+  fused-rise = is-strict rows (map (joined t) (unionSets t))
 
-  pub fused-are : (r : List ℕ) → Stands r (fusedRows t) ↔ JoinedOf r
+  pub fused-are : (r : List ℕ) → Member r (fusedRows t) ↔ JoinedOf r
   unfolding fusedRows
   fused-are r = (
-    λ h. map-stands (joined t) r (unionSets t) (ascending-only rows r (map (joined t) (unionSets t)) h),
+    λ h. map-member (joined t) r (unionSets t) (ascending-only rows r (map (joined t) (unionSets t)) h),
     λ i. ascending-has rows r (map (joined t) (unionSets t))
-        (subst (λ (x : List ℕ). Stands x (map (joined t) (unionSets t))) (sym (i .2)) (stands-map (joined t) (i .0) (unionSets t) (i .1))),
+        (subst (λ (x : List ℕ). Member x (map (joined t) (unionSets t))) (sym (i .2)) (member-map (joined t) (i .0) (unionSets t) (i .1))),
   )
 
-  pub fused-alone : (f : List (List ℕ)) → Rising compareRow f → ((r : List ℕ) → Stands r f ↔ JoinedOf r) → f ≡ fusedRows t
+  pub fused-alone : (f : List (List ℕ)) → StrictlyAscending compareRow f → ((r : List ℕ) → Member r f ↔ JoinedOf r) → f ≡ fusedRows t
   fused-alone f h g =
       determined rows f (fusedRows t) h fused-rise (λ r k. fused-are r .1 (g r .0 k)) (λ r k. g r .1 (fused-are r .0 k))
 
   -- fused rows are as long as the rows that they are joined of
-  pub fused-even : (n : ℕ) → ((r : List ℕ) → Stands r t → length r ≡ n) → (r : List ℕ) → Stands r (fusedRows t) → length r ≡ n
+  pub fused-even : (n : ℕ) → ((r : List ℕ) → Member r t → length r ≡ n) → (r : List ℕ) → Member r (fusedRows t) → length r ≡ n
   unfolding unionSets
   fused-even n f r h =
       let i = fused-are r .0 h in

@@ -6,7 +6,7 @@ use lib.Dec.{eqb}
 use lib.ListN.{length, getD}
 use Rattle.definitions.specs.declared.Order.{Order}
 use Rattle.definitions.specs.declared.Order.the-variants.{Before, Same, After}
-use Rattle.definitions.specs.Lists.{keep, allBelow}
+use Rattle.definitions.specs.Lists.{filter, allBelow}
 use Rattle.definitions.specs.Word.{isFilled}
 use Rattle.definitions.specs.Ascending.{ascending}
 use Rattle.definitions.specs.OuterUnion.{compareRow}
@@ -35,10 +35,10 @@ unfoldable pub complement : List ℕ → List ℕ → Bool
 complement s t = agree s t && (not (sameRow s t) && not (subsumes s t) && not (subsumes t s)) && share s t
 
 -- A set of positions below n is a list of n marks, that of position 0 first.
-unfoldable pub marked : List Bool → ℕ → Bool
-marked [] k = false
-marked (m ∷ s) zero = m
-marked (m ∷ s) (suc k) = marked s k
+unfoldable pub contains : List Bool → ℕ → Bool
+contains [] k = false
+contains (m ∷ s) zero = m
+contains (m ∷ s) (suc k) = contains s k
 
 -- "Of two sets, look at the smallest position that only one of them holds: the set with it comes first."
 unfoldable pub compareSet : List Bool → List Bool → Order
@@ -56,24 +56,24 @@ subsets zero = [] ∷ []
 subsets (suc n) = map (λ s. true ∷ s) (subsets n) ++ map (λ s. false ∷ s) (subsets n)
 
 -- over n positions, of which j and k complement each other where `near j k`
-module _ (near : ℕ → ℕ → Bool) (n : ℕ) where
+module _ (adjacent : ℕ → ℕ → Bool) (n : ℕ) where
   -- the position j complements every member of s
-  unfoldable pub nearAll : List Bool → ℕ → Bool
-  nearAll s j = allBelow n (λ k. not (marked s k) || near j k)
+  unfoldable pub adjacentToAll : List Bool → ℕ → Bool
+  adjacentToAll s j = allBelow n (λ k. not (contains s k) || adjacent j k)
 
   -- "A complementing set is a non-empty set of positions in which every two different rows complement each other."
   unfoldable pub isComplementing : List Bool → Bool
   isComplementing s =
-      not (allBelow n (λ k. not (marked s k)))
-      && allBelow n (λ j. allBelow n (λ k. not (marked s j && marked s k && not (eqb j k)) || near j k))
+      not (allBelow n (λ k. not (contains s k)))
+      && allBelow n (λ j. allBelow n (λ k. not (contains s j && contains s k && not (eqb j k)) || adjacent j k))
 
   -- "It is maximal if no position outside complements all its members."
   unfoldable pub isMaximal : List Bool → Bool
-  isMaximal s = allBelow n (λ j. marked s j || not (nearAll s j))
+  isMaximal s = allBelow n (λ j. contains s j || not (adjacentToAll s j))
 
   -- the maximal complementing sets, in set order
   unfoldable pub maximalSets : List (List Bool)
-  maximalSets = keep (λ s. isComplementing s && isMaximal s) (subsets n)
+  maximalSets = filter (λ s. isComplementing s && isMaximal s) (subsets n)
 
 -- the rows at two positions complement each other
 abbrev pub complementAt : List (List ℕ) → ℕ → ℕ → Bool

@@ -5,6 +5,10 @@ use Prim.Native.Nat.{ℕ, _+_}
 abbrev pub maxColumns : ℕ
 maxColumns = 16
 
+-- two tables have at most this many ids
+abbrev pub maxIds : ℕ
+maxIds = maxColumns + maxColumns
+
 abbrev pub maxRows : ℕ
 maxRows = 32
 

@@ -16,14 +16,14 @@ module _ {A : Type 0} where
   any p (x ∷ xs) = p x || any p xs
 
   -- the elements that pass the test, in their order
-  unfoldable pub keep : (A → Bool) → List A → List A
-  keep p [] = []
-  keep p (x ∷ xs) = cond (p x) (x ∷ keep p xs) (keep p xs)
+  unfoldable pub filter : (A → Bool) → List A → List A
+  filter p [] = []
+  filter p (x ∷ xs) = cond (p x) (x ∷ filter p xs) (filter p xs)
 
   -- the place of the first element that passes the test, counted from 0; the length where none does
-  unfoldable pub place : (A → Bool) → List A → ℕ
-  place p [] = 0
-  place p (x ∷ xs) = cond (p x) 0 (suc (place p xs))
+  unfoldable pub findIndex : (A → Bool) → List A → ℕ
+  findIndex p [] = 0
+  findIndex p (x ∷ xs) = cond (p x) 0 (suc (findIndex p xs))
 
   -- no element equals a later one
   unfoldable pub distinct : (A → A → Bool) → List A → Bool

@@ -4,7 +4,7 @@ use mathlib.Core.Bool.{Bool, true, false, cond, not, _&&_, _||_, toNat}
 use mathlib.Core.List.{List, [], _∷_}
 use lib.Dec.{eqb, ltb}
 use lib.ListN.{length, getD}
-use Rattle.definitions.specs.Lists.{any, keep, without, sumBelow}
+use Rattle.definitions.specs.Lists.{any, filter, without, sumBelow}
 use Rattle.definitions.specs.Word.{isFilled}
 
 -- how many cells are filled
@@ -25,7 +25,7 @@ subsumes s t = ltb (filled t) (filled s) && covers s t
 
 -- "The minimum union is T without the rows that some row of T subsumes, still ascending."
 unfoldable pub minimumRows : List (List ℕ) → List (List ℕ)
-minimumRows rows = keep (λ t. not (any (λ s. subsumes s t) rows)) rows
+minimumRows rows = filter (λ t. not (any (λ s. subsumes s t) rows)) rows
 
 -- "the other rows are tried in ascending position, and the trying stops at the first row that subsumes it"
 unfoldable pub tries : List ℕ → List (List ℕ) → ℕ

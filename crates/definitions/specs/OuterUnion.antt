@@ -6,7 +6,7 @@ use lib.Dec.{eqb, ltb}
 use lib.ListN.{getD}
 use Rattle.definitions.specs.declared.Order.{Order}
 use Rattle.definitions.specs.declared.Order.the-variants.{Before, Same, After}
-use Rattle.definitions.specs.Lists.{place}
+use Rattle.definitions.specs.Lists.{findIndex}
 use Rattle.definitions.specs.Image.{imageIds, imageRows}
 use Rattle.definitions.specs.Ascending.{ascending}
 
@@ -32,7 +32,7 @@ unionIds a b = ascending compareWord (imageIds a ++ imageIds b)
 
 -- the cell of a row in the column with an id; the empty cell where its table lacks that column
 abbrev pub cellIn : List ℕ → List ℕ → ℕ → ℕ
-cellIn ids row id = getD row (place (eqb id) ids) 0
+cellIn ids row id = getD row (findIndex (eqb id) ids) 0
 
 -- "Each row gets empty cells in columns that its table lacks."
 unfoldable pub widened : List ℕ → List ℕ → List ℕ → List ℕ

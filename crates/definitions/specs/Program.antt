@@ -8,7 +8,7 @@ use Rattle.definitions.specs.Limits.{maxColumns, maxUnionRows, maxSets}
 use Rattle.definitions.specs.OuterUnion.{unionIds, unionRows}
 use Rattle.definitions.specs.MinimumUnion.{filled, minimumRows, pairsTried}
 use Rattle.definitions.specs.ComplementUnion.{unionSets, fusedRows}
-use Rattle.definitions.specs.SetList.{fusedPlace}
+use Rattle.definitions.specs.SetList.{fusedPosition}
 use Rattle.definitions.specs.Answer.{Outcome, done, refused}
 use Rattle.definitions.specs.Calls.{complementOutcome}
 use Rattle.definitions.specs.Reading.{positionsOf}
@@ -42,7 +42,7 @@ rowLines rows = flatten (map rowLine rows)
 
 -- the lines of sets of T
 abbrev pub setLines : List (List ℕ) → List (List Bool) → List ℕ
-setLines rows sets = flatten (map (λ set. setLine (positionsOf 0 set) (fusedPlace rows set)) sets)
+setLines rows sets = flatten (map (λ set. setLine (positionsOf 0 set) (fusedPosition rows set)) sets)
 
 -- the columns and T
 unfoldable pub unionText : List ℕ → List ℕ → List ℕ

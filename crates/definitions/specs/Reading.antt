@@ -43,5 +43,5 @@ positionsOf from [] = []
 positionsOf from (m ∷ set) = cond m (from ∷ []) [] ++ positionsOf (suc from) set
 
 -- "and one of kind 1 with the joined row's position in the fused table"
-abbrev pub placeIn : ℕ → List ℕ → ℕ
-placeIn m words = getD words m 0 % 2 ^ 30
+abbrev pub positionIn : ℕ → List ℕ → ℕ
+positionIn m words = getD words m 0 % 2 ^ 30

@@ -4,7 +4,7 @@ use mathlib.Core.Bool.{Bool, true, false, cond}
 use mathlib.Core.List.{List, [], _∷_, _++_, map, flatten}
 use lib.ListN.{length}
 use Rattle.definitions.specs.Limits.{markWords, setWidth}
-use Rattle.definitions.specs.Lists.{place}
+use Rattle.definitions.specs.Lists.{findIndex}
 use Rattle.definitions.specs.Word.{wordOf, headerWord}
 use Rattle.definitions.specs.ComplementUnion.{sameRow, unionSets, joined, fusedRows}
 
@@ -19,11 +19,11 @@ marksFrom zero set = []
 marksFrom (suc n) set = wordOf 2 (set % 2 ^ 30) ∷ marksFrom n (set / 2 ^ 30)
 
 -- "the joined row's position in the fused table"
-abbrev pub fusedPlace : List (List ℕ) → List Bool → ℕ
-fusedPlace rows s = place (sameRow (joined rows s)) (fusedRows rows)
+abbrev pub fusedPosition : List (List ℕ) → List Bool → ℕ
+fusedPosition rows s = findIndex (sameRow (joined rows s)) (fusedRows rows)
 
 unfoldable pub setRecord : List (List ℕ) → List Bool → List ℕ
-setRecord rows s = marksFrom markWords (bits s) ++ (wordOf 1 (fusedPlace rows s) ∷ [])
+setRecord rows s = marksFrom markWords (bits s) ++ (wordOf 1 (fusedPosition rows s) ∷ [])
 
 -- "The set list is a header of kind 3 .. then 4 words a set"
 unfoldable pub setList : List (List ℕ) → List ℕ

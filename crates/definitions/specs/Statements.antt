@@ -6,9 +6,9 @@ use Rattle.definitions.specs.declared.Order.{Order}
 use Rattle.definitions.specs.declared.Order.the-variants.{Before, Same, After}
 
 -- a stands in the list
-abbrev pub Stands : {A : Type 0} → A → List A → Type 0
-Stands a [] = ⊥
-Stands a (b ∷ rest) = (a ≡ b) ⊎ Stands a rest
+abbrev pub Member : {A : Type 0} → A → List A → Type 0
+Member a [] = ⊥
+Member a (b ∷ rest) = (a ≡ b) ⊎ Member a rest
 
 -- a strict total order: of two elements one comes before the other, or they are equal
 pub record Orders {A : Type 0} (compare : A → A → Order) : Type 0 where
@@ -24,6 +24,6 @@ module _ {A : Type 0} (compare : A → A → Order) where
   Above a (b ∷ rest) = (compare a b ≡ Before) × Above a rest
 
   -- strictly ascending: each element comes before all that follow it
-  abbrev pub Rising : List A → Type 0
-  Rising [] = Unit {0}
-  Rising (a ∷ rest) = Above a rest × Rising rest
+  abbrev pub StrictlyAscending : List A → Type 0
+  StrictlyAscending [] = Unit {0}
+  StrictlyAscending (a ∷ rest) = Above a rest × StrictlyAscending rest

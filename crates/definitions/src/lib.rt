@@ -1,4 +1,13 @@
-// The types that code and definitions share: the order of two elements, and the answers of the three calls.
+// What code and definitions share: the limits, the order of two elements, and the answers of the three calls.
+mod limits;
+
+pub use limits::MARK_WORDS;
+pub use limits::MAX_COLUMNS;
+pub use limits::MAX_IDS;
+pub use limits::MAX_ROWS;
+pub use limits::MAX_SETS;
+pub use limits::MAX_UNION_ROWS;
+pub use limits::SET_WIDTH;
 
 // The first of two elements comes before the second, is the same, or comes after it.
 pub enum Order {

@@ -10,13 +10,13 @@ use Rattle.definitions.specs.Image.{columnCount, imageIds, imageOf, rowsIn}
 use Rattle.definitions.specs.OuterUnion.{unionIds, unionRows}
 use Rattle.definitions.specs.MinimumUnion.{filled, minimumRows, pairsTried}
 use Rattle.definitions.specs.ComplementUnion.{unionSets, fusedRows}
-use Rattle.definitions.specs.SetList.{fusedPlace, setRecord, setList}
+use Rattle.definitions.specs.SetList.{fusedPosition, setRecord, setList}
 use Rattle.definitions.specs.Answer.{Outcome, done, refused, afterwards}
 use Rattle.definitions.specs.Calls.{outerImage, minimumImage, fusedImage, outerOutcome, minimumOutcome, complementOutcome}
 use Rattle.definitions.specs.Reading.{positionsOf}
 use Rattle.definitions.specs.Listing.{columnsLine, unionTitle, minimumTitle, setsTitle, fusedTitle, setLine}
 use Rattle.definitions.specs.Program.{rowLines, setLines, lentTable, lentSets, unionText, minimumText, setsText, fusedText, listing}
-use Rattle.definitions.specs.Statements.{Stands}
+use Rattle.definitions.specs.Statements.{Member}
 use Rattle.definitions.proofs.Lists.{map-ext}
 use Rattle.definitions.proofs.Minimum.{minimum-is}
 use Rattle.definitions.proofs.Counts.{fused-count, minimum-count, set-list-length}
@@ -57,7 +57,7 @@ module _ (a b : List ℕ) where
   abbrev T : List (List ℕ)
   T = unionRows a b
 
-  minimum-even : (r : List ℕ) → Stands r (minimumRows T) → length r ≡ length (unionIds a b)
+  minimum-even : (r : List ℕ) → Member r (minimumRows T) → length r ≡ length (unionIds a b)
   minimum-even r h = rows-even a b r (minimum-is T r .0 h .0)
 
   -- ---- T
@@ -154,9 +154,9 @@ module _ (a b : List ℕ) where
   module _ (values : List ℕ) (d : ComplementDone a b lentTable lentSets values) where
     -- the line of a set
     abbrev lineOf : List Bool → List ℕ
-    lineOf s = setLine (positionsOf 0 s) (fusedPlace T s)
+    lineOf s = setLine (positionsOf 0 s) (fusedPosition T s)
 
-    record-text : (s : List Bool) → Stands s (unionSets T) → recordLine (setRecord T s) ≡ lineOf s
+    record-text : (s : List Bool) → Member s (unionSets T) → recordLine (setRecord T s) ≡ lineOf s
     record-text s h =
         ap₂ setLine (positions-read T s (omega (arith, listed-length T [] s h, accepted-rows a b (d .accepted))))
         (place-read T s (listed-place T [] (d .few-sets) s h))

@@ -9,18 +9,18 @@ use native.Mathlib.Omega.{arith}
 use lib.ListN.{length, take, drop, length-map}
 use lib.Seq.{take-at}
 use Rattle.definitions.specs.Limits.{maxSets, setWidth}
-use Rattle.definitions.specs.Lists.{place}
+use Rattle.definitions.specs.Lists.{findIndex}
 use Rattle.definitions.specs.Image.{rowsIn}
 use Rattle.definitions.specs.Word.{headerWord}
 use Rattle.definitions.specs.OuterUnion.{compareRow}
 use Rattle.definitions.specs.Ascending.{ascending}
 use Rattle.definitions.specs.ComplementUnion.{sameRow, joined, maximalSets, unionSets, fusedRows}
-use Rattle.definitions.specs.SetList.{bits, fusedPlace, setRecord, setList}
-use Rattle.definitions.specs.Statements.{Stands}
+use Rattle.definitions.specs.SetList.{bits, fusedPosition, setRecord, setList}
+use Rattle.definitions.specs.Statements.{Member}
 use Rattle.definitions.proofs.Counts.{fused-count, set-list-length}
-use Rattle.definitions.proofs.SetWords.{fused-place-within}
+use Rattle.definitions.proofs.SetWords.{fused-position-within}
 use Rattle.lists.proofs.Flat.{rows-length}
-use Rattle.cliques.specs.Graph.{near, AllSets}
+use Rattle.cliques.specs.Graph.{adjacent, AllSets}
 use Rattle.rows.specs.Numbers.{rowsAt, Below, Ordered}
 use Rattle.fusing.specs.Graph.{GraphOf}
 use Rattle.fusing.specs.Records.{placesIn, recordOf, recordsOf, listOf}
@@ -30,8 +30,8 @@ use Rattle.fusing.proofs.Neighbours.{graph-sets}
 
 module _ (rows : List (List ℕ)) (neighbours list : List ℕ) (n r : ℕ) (size : length rows ≡ n) (g : GraphOf rows neighbours)
     (found : AllSets neighbours n list r) where
-  sets-are : maximalSets (near neighbours) n ≡ unionSets rows
-  sets-are = ap (maximalSets (near neighbours)) (sym size) ∙ graph-sets rows neighbours g
+  sets-are : maximalSets (adjacent neighbours) n ≡ unionSets rows
+  sets-are = ap (maximalSets (adjacent neighbours)) (sym size) ∙ graph-sets rows neighbours g
 
   sets-counted : r ≡ min (suc maxSets) (length (unionSets rows))
   sets-counted = found .counts ∙ ap (λ (l : List (List Bool)). min (suc maxSets) (length l)) sets-are
@@ -53,40 +53,40 @@ module _ (rows : List (List ℕ)) (c count : ℕ) (cells l : List ℕ) (known : 
   unfolding fusedRows
   ordered-fused = o .rows ∙ ap (ascending compareRow) known
 
-  places-fused : placesIn (rowsAt c cells l) (rowsIn c count cells) ≡ map (fusedPlace rows) (unionSets rows)
+  places-fused : placesIn (rowsAt c cells l) (rowsIn c count cells) ≡ map (fusedPosition rows) (unionSets rows)
   unfolding placesIn
-  places-fused = ap₂ (λ (t s : List (List ℕ)). map (λ r. place (sameRow r) t) s) ordered-fused known ∙ twice (unionSets rows)
+  places-fused = ap₂ (λ (t s : List (List ℕ)). map (λ r. findIndex (sameRow r) t) s) ordered-fused known ∙ twice (unionSets rows)
     where
-      twice : (ss : List (List Bool)) → map (λ r. place (sameRow r) (fusedRows rows)) (map (joined rows) ss) ≡ map (fusedPlace rows) ss
+      twice : (ss : List (List Bool)) → map (λ r. findIndex (sameRow r) (fusedRows rows)) (map (joined rows) ss) ≡ map (fusedPosition rows) ss
       twice [] = refl
-      twice (s ∷ ss) = ap (λ (t : List ℕ). fusedPlace rows s ∷ t) (twice ss)
+      twice (s ∷ ss) = ap (λ (t : List ℕ). fusedPosition rows s ∷ t) (twice ss)
 
   -- the places written are those of the joined rows in the fused table
   pub places-known : (places rest : List ℕ) → places ≡ placesIn (rowsAt c cells l) (rowsIn c count cells) ++ rest
-      → take count places ≡ map (fusedPlace rows) (unionSets rows)
+      → take count places ≡ map (fusedPosition rows) (unionSets rows)
   unfolding placesIn
   places-known places rest e =
       ap (take count) e
       ∙ take-at (placesIn (rowsAt c cells l) (rowsIn c count cells)) rest count
-      (length-map (rowsIn c count cells) (λ r. place (sameRow r) (rowsAt c cells l)) ∙ rows-length c count cells)
+      (length-map (rowsIn c count cells) (λ r. findIndex (sameRow r) (rowsAt c cells l)) ∙ rows-length c count cells)
       ∙ places-fused
 
 -- ---- the set list
 
 module _ (rows : List (List ℕ)) where
-  pub places-below : length (unionSets rows) ≤ maxSets → Below maxSets (map (fusedPlace rows) (unionSets rows))
-  places-below few = below (unionSets rows) (λ s h. omega (arith, fused-place-within rows s h, fused-count rows))
+  pub places-below : length (unionSets rows) ≤ maxSets → Below maxSets (map (fusedPosition rows) (unionSets rows))
+  places-below few = below (unionSets rows) (λ s h. omega (arith, fused-position-within rows s h, fused-count rows))
     where
-      below : (ss : List (List Bool)) → ((s : List Bool) → Stands s ss → fusedPlace rows s < maxSets) → Below maxSets (map (fusedPlace rows) ss)
+      below : (ss : List (List Bool)) → ((s : List Bool) → Member s ss → fusedPosition rows s < maxSets) → Below maxSets (map (fusedPosition rows) ss)
       below [] f = tt
       below (s ∷ ss) f = (f s (inl refl), below ss (λ t h. f t (inr h)))
 
-  records-are : (ss : List (List Bool)) → recordsOf (map bits ss) (map (fusedPlace rows) ss) ≡ map (setRecord rows) ss
+  records-are : (ss : List (List Bool)) → recordsOf (map bits ss) (map (fusedPosition rows) ss) ≡ map (setRecord rows) ss
   unfolding recordsOf recordOf setRecord
   records-are [] = refl
   records-are (s ∷ ss) = ap (λ (t : List (List ℕ)). setRecord rows s ∷ t) (records-are ss)
 
-  module _ (sets places : List ℕ) (known : sets ≡ map bits (unionSets rows)) (fused : places ≡ map (fusedPlace rows) (unionSets rows)) where
+  module _ (sets places : List ℕ) (known : sets ≡ map bits (unionSets rows)) (fused : places ≡ map (fusedPosition rows) (unionSets rows)) where
     pub list-is : listOf sets places ≡ setList rows
     unfolding listOf setList
     list-is =
@@ -95,7 +95,7 @@ module _ (rows : List (List ℕ)) where
 
   -- the buffer after it
   pub list-written : (sets places found now : List ℕ) (count : ℕ) → length (unionSets rows) ≡ count → sets ≡ map bits (unionSets rows)
-      → places ≡ map (fusedPlace rows) (unionSets rows) → now ≡ listOf sets places ++ drop (1 + setWidth * count) found
+      → places ≡ map (fusedPosition rows) (unionSets rows) → now ≡ listOf sets places ++ drop (1 + setWidth * count) found
       → now ≡ setList rows ++ drop (length (setList rows)) found
   list-written sets places found now count e known fused written =
       let size : 1 + setWidth * count ≡ length (setList rows) = ap (λ (k : ℕ). 1 + setWidth * k) (sym e) ∙ sym (set-list-length rows) in

@@ -10,8 +10,8 @@ use lib.Seq.{paste, getD-take, length-take-le}
 use Rattle.definitions.specs.Image.{rowsIn}
 use Rattle.definitions.specs.ComplementUnion.{joined, unionSets}
 use Rattle.definitions.specs.SetList.{bits}
-use Rattle.definitions.specs.Statements.{Stands}
-use Rattle.definitions.proofs.Lists.{map-at, stands-get, map-stands}
+use Rattle.definitions.specs.Statements.{Member}
+use Rattle.definitions.proofs.Lists.{map-at, member-get, map-member}
 use Rattle.definitions.proofs.Counts.{flatten-length}
 use Rattle.lists.proofs.Flat.{Wide, row-fits, flat-row, pasted-rows}
 use Rattle.lists.proofs.Pastes.{Pasted, paste-none, pasted-more}
@@ -43,7 +43,7 @@ module _ (c n count : ℕ) (w columns sets found : List ℕ) (fits : n * c ≤ l
 
   joins-wide : Wide c (joinedRows rows)
   joins-wide r h =
-      let m = map-stands (joined rows) r (unionSets rows) h in
+      let m = map-member (joined rows) r (unionSets rows) h in
       ap (λ (t : List ℕ). length t) (m .2) ∙ joined-wide c n w columns fits o (m .0) (m .1)
 
   joins-size : length (flatten (joinedRows rows)) ≡ count * c
@@ -60,13 +60,13 @@ module _ (c n count : ℕ) (w columns sets found : List ℕ) (fits : n * c ≤ l
       let within : k * c + c ≤ count * c = row-fits c count k more in
       let s = getD (unionSets rows) k [] in
       let l : k < length (unionSets rows) = omega (arith, sets-count sets count (unionSets rows) room known) in
-      let stands : Stands s (unionSets rows) = stands-get [] (unionSets rows) k l in
+      let member : Member s (unionSets rows) = member-get [] (unionSets rows) k l in
       let row : pickFrom c w (getD sets k 0) 0 (take c columns) ≡ joined rows s =
-      ap (λ (x : ℕ). pickFrom c w x 0 (take c columns)) (set-at sets count k (unionSets rows) room known more) ∙ picks-joined c n w columns fits o s stands in
+      ap (λ (x : ℕ). pickFrom c w x 0 (take c columns)) (set-at sets count k (unionSets rows) room known more) ∙ picks-joined c n w columns fits o s member in
       let next : k * c + c ≡ (k + 1) * c = omega (arith, add-mul k 1 c, one-mul c) in
       subst (λ (i : ℕ). Pasted found 0 (flatten (joinedRows rows)) i new) next
       (pasted-more found 0 (flatten (joinedRows rows)) (k * c) now new (joined rows s) c at (omega arith) (omega arith) p (here ∙ sym (zero-add (k * c)))
-      (joined-wide c n w columns fits o s stands)
+      (joined-wide c n w columns fits o s member)
       (flat-row c [] (joinedRows rows) k joins-wide (omega arith) ∙ map-at (joined rows) [] [] (unionSets rows) k l)
       (e ∙ ap (λ (r : List ℕ). paste now at r c) row))
 

@@ -14,7 +14,7 @@ use Rattle.definitions.specs.Image.{rowsIn}
 use Rattle.definitions.proofs.Bools.{bool-cases, clash}
 use Rattle.lists.proofs.Flat.{rows-length, rows-at}
 use Rattle.bitsets.specs.Bits.{has, both, withoutLowest}
-use Rattle.cliques.specs.Graph.{near}
+use Rattle.cliques.specs.Graph.{adjacent}
 use Rattle.bitsets.proofs.Bits.{Lowest, has-both, has-or}
 use Rattle.patterns.specs.Columns.{ColumnsOf}
 use Rattle.patterns.proofs.FilledRows.{filled-has}
@@ -82,7 +82,7 @@ module _ (filled : ℕ) (leaders equal found : List ℕ) where
         let group = getD equal (getD leaders j 0) 0 in
         ap (λ (x : ℕ). has x k) (inv .done j (passed-all filled rest j e ∙ h))
         ∙ has-both (getD found j 0) (bitOr group (2 ^ 64 - 1 - filled)) k
-        ∙ ap (λ (b : Bool). near found j k && b)
+        ∙ ap (λ (b : Bool). adjacent found j k && b)
         (has-or group (2 ^ 64 - 1 - filled) k ∙ ap (λ (b : Bool). has group k || b) (has-lacked 64 filled k fits small));
     others = λ j h. inv .left j (passed-all filled rest j e ∙ h);
   }
@@ -92,7 +92,7 @@ module _ (filled : ℕ) (leaders equal found : List ℕ) where
 -- c columns are passed
 abbrev pub NarrowedTo : List (List ℕ) → List ℕ → ℕ → List ℕ → Type 0
 NarrowedTo rows found c now =
-    (j k : ℕ) → j < length rows → k < length rows → AgreesFrom (getD rows j []) (getD rows k []) (near found j k) c (near now j k)
+    (j k : ℕ) → j < length rows → k < length rows → AgreesFrom (getD rows j []) (getD rows k []) (adjacent found j k) c (adjacent now j k)
 
 pub narrowed-none : (rows : List (List ℕ)) (found : List ℕ) → NarrowedTo rows found 0 found
 narrowed-none rows found j k h g = refl
@@ -132,31 +132,31 @@ module _ (c n : ℕ) (w columns found : List ℕ) (few : n ≤ 64) (fits : n * c
     held-is : (k : ℕ) → k < length rows → has filled k ≡ isFilled (cell k)
     held-is k h = ap (λ (x : ℕ). has x k) (column ∙ o .marks i more) ∙ filled-has rows i k h
 
-    near-turn : (j k : ℕ) → j < length rows → k < length rows → near new j k ≡ (near now j k && cellsAgree (cell j) (cell k))
-    near-turn j k h l =
+    adjacent-turn : (j k : ℕ) → j < length rows → k < length rows → adjacent new j k ≡ (adjacent now j k && cellsAgree (cell j) (cell k))
+    adjacent-turn j k h l =
         bool-cases (isFilled (cell j))
         (λ e.
         let here : has filled j ≡ true = held-is j h ∙ e in
         b .held j k here (omega (arith, below k l))
-        ∙ ap (λ (x : Bool). near now j k && x)
+        ∙ ap (λ (x : Bool). adjacent now j k && x)
         (ap (λ (x : Bool). x || not (has filled k)) (g .alike j k here ∙ ap₂ (λ (x y : ℕ). has filled k && eqb x y) (cell-is j h) (cell-is k l))
         ∙ ap (λ (f : Bool). (f && eqb (cell j) (cell k)) || not f) (held-is k l)
         ∙ beside (eqb (cell j) (cell k)) (isFilled (cell k))
         ∙ ap (λ (f : Bool). eqb (cell j) (cell k) || not f || not (isFilled (cell k))) (sym e)))
         (λ e.
         ap (λ (x : ℕ). has x k) (b .others j (held-is j h ∙ e))
-        ∙ alone (eqb (cell j) (cell k)) (near now j k) (isFilled (cell k))
-        ∙ ap (λ (f : Bool). near now j k && (eqb (cell j) (cell k) || not f || not (isFilled (cell k)))) (sym e))
+        ∙ alone (eqb (cell j) (cell k)) (adjacent now j k) (isFilled (cell k))
+        ∙ ap (λ (f : Bool). adjacent now j k && (eqb (cell j) (cell k) || not f || not (isFilled (cell k)))) (sym e))
 
     pub narrowed-turn : NarrowedTo rows found i now → NarrowedTo rows found (i + 1) new
     narrowed-turn inv j k h l =
         let size : length (getD rows j []) ≡ c = wide j h in
-        agree-turn (getD rows j []) (getD rows k []) (near found j k) i (near now j k) (size ∙ sym (wide k l)) (inv j k h l) (near new j k) (omega arith)
-        (near-turn j k h l)
+        agree-turn (getD rows j []) (getD rows k []) (adjacent found j k) i (adjacent now j k) (size ∙ sym (wide k l)) (inv j k h l) (adjacent new j k) (omega arith)
+        (adjacent-turn j k h l)
 
   pub narrowed-end : (i : ℕ) (now : List ℕ) → c ≤ i → NarrowedTo rows found i now → Narrowed rows found now
   narrowed-end i now all inv = record {
     agrees = λ j k h l.
         let size : length (getD rows j []) ≡ c = wide j h in
-        agree-end (getD rows j []) (getD rows k []) (near found j k) i (near now j k) (size ∙ sym (wide k l)) (inv j k h l) (omega arith);
+        agree-end (getD rows j []) (getD rows k []) (adjacent found j k) i (adjacent now j k) (size ∙ sym (wide k l)) (inv j k h l) (omega arith);
   }

@@ -6,24 +6,24 @@ use lib.ListN.{length, getD}
 use Rattle.definitions.specs.ComplementUnion.{complementAt, maximalSets, unionSets}
 use Rattle.definitions.proofs.Complementing.{complement-sym, complement-self}
 use Rattle.definitions.proofs.Sets.{listed-ext}
-use Rattle.cliques.specs.Graph.{near}
+use Rattle.cliques.specs.Graph.{adjacent}
 use Rattle.fusing.specs.Graph.{CrossingRows, Narrowed, GraphOf}
 
 module _ (rows : List (List ℕ)) (found neighbours : List ℕ) (crossing : CrossingRows rows found) (narrowed : Narrowed rows found neighbours) where
-  near-is : (j k : ℕ) → j < length rows → k < length rows → near neighbours j k ≡ complementAt rows j k
-  near-is j k h g = narrowed .agrees j k h g ∙ sym (crossing .each j h k g)
+  adjacent-is : (j k : ℕ) → j < length rows → k < length rows → adjacent neighbours j k ≡ complementAt rows j k
+  adjacent-is j k h g = narrowed .agrees j k h g ∙ sym (crossing .each j h k g)
 
   pub graph-of : length rows ≤ length neighbours → GraphOf rows neighbours
   graph-of room = record {
     graph = record {
       rows = room;
-      symmetric = λ j k h g. near-is j k h g ∙ complement-sym (getD rows j []) (getD rows k []) ∙ sym (near-is k j g h);
-      apart = λ j h. near-is j j h h ∙ complement-self (getD rows j []);
+      symmetric = λ j k h g. adjacent-is j k h g ∙ complement-sym (getD rows j []) (getD rows k []) ∙ sym (adjacent-is k j g h);
+      apart = λ j h. adjacent-is j j h h ∙ complement-self (getD rows j []);
     };
-    nears = near-is;
+    adjacent-as = adjacent-is;
   }
 
 -- the maximal sets of the graph are those of T
-pub graph-sets : (rows : List (List ℕ)) (neighbours : List ℕ) → GraphOf rows neighbours → maximalSets (near neighbours) (length rows) ≡ unionSets rows
+pub graph-sets : (rows : List (List ℕ)) (neighbours : List ℕ) → GraphOf rows neighbours → maximalSets (adjacent neighbours) (length rows) ≡ unionSets rows
 unfolding unionSets
-graph-sets rows neighbours g = listed-ext (near neighbours) (complementAt rows) (length rows) (g .nears)
+graph-sets rows neighbours g = listed-ext (adjacent neighbours) (complementAt rows) (length rows) (g .adjacent-as)

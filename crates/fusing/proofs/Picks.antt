@@ -16,7 +16,7 @@ use Rattle.definitions.specs.Word.{isFilled}
 use Rattle.definitions.specs.Image.{rowsIn}
 use Rattle.definitions.specs.ComplementUnion.{complementAt, members, joined, unionSets}
 use Rattle.definitions.specs.SetList.{bits}
-use Rattle.definitions.specs.Statements.{Stands}
+use Rattle.definitions.specs.Statements.{Member}
 use Rattle.definitions.proofs.Bools.{bool-cases, and-l, and-r}
 use Rattle.definitions.proofs.Rows.{Filled, CellAgrees, filled-cell, empty-cell, agree-at}
 use Rattle.definitions.proofs.Sets.{Holds, Complementing, holds-within, listed-is}
@@ -80,7 +80,7 @@ module _ (rows : List (List ℕ)) (s : List Bool) (comp : Complementing (complem
   pub member-cell : (k : ℕ) → Holds s k → Filled (cell k) → getD (joined rows s) column 0 ≡ cell k
   member-cell k h f =
       let l : k < length rows = omega (arith, holds-within s k h, comp .size) in
-      let here : Stands (getD rows k []) (members rows s) = members-are rows s (getD rows k []) .1 (k, l, h, refl) in
+      let here : Member (getD rows k []) (members rows s) = members-are rows s (getD rows k []) .1 (k, l, h, refl) in
       bool-cases (eqb (getD (joined rows s) column 0) 0)
       (λ e. absurd (f (joined-empty rows s column .0 (eqb-true (getD (joined rows s) column 0) 0 e) (getD rows k []) here)))
       (λ e.
@@ -99,7 +99,7 @@ module _ (rows : List (List ℕ)) (s : List Bool) (comp : Complementing (complem
 -- ---- the rows stand in the words w, and each column's word holds the rows that are filled there
 
 module _ (c n : ℕ) (w columns : List ℕ) (fits : n * c ≤ length w) (o : ColumnsOf (rowsIn c n w) c columns) (s : List Bool)
-    (listed : Stands s (unionSets (rowsIn c n w))) where
+    (listed : Member s (unionSets (rowsIn c n w))) where
   abbrev rows : List (List ℕ)
   rows = rowsIn c n w
 

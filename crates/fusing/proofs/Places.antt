@@ -11,18 +11,18 @@ use lib.Seq.{paste, take-all, length-take-le, drop-drop, drop-set-lt, getD-take,
 use borrow.Author.Count.{below-more}
 use borrow.Author.Tests.{eqb-true, eqb-false}
 use Rattle.definitions.specs.Image.{rowsIn}
-use Rattle.definitions.specs.Lists.{place}
+use Rattle.definitions.specs.Lists.{findIndex}
 use Rattle.definitions.specs.ComplementUnion.{sameRow}
-use Rattle.definitions.specs.Statements.{Stands}
+use Rattle.definitions.specs.Statements.{Member}
 use Rattle.definitions.proofs.Bools.{bool-cases}
-use Rattle.definitions.proofs.Lists.{map-at, place-rising}
+use Rattle.definitions.proofs.Lists.{map-at, findIndex-strict}
 use Rattle.definitions.proofs.Orders.{rows}
 use Rattle.definitions.proofs.Rows.{same-is}
 use Rattle.lists.proofs.Flat.{rows-length, rows-at}
 use Rattle.lists.proofs.Pastes.{Pasted, paste-turn}
 use Rattle.rows.specs.Numbers.{rowAt, rowsAt, Below, Listed, Ordered}
 use Rattle.rows.proofs.Numbers.{below-at}
-use Rattle.rows.proofs.Places.{ordered-listed, ordered-stands}
+use Rattle.rows.proofs.Places.{ordered-listed, ordered-member}
 use Rattle.fusing.specs.Records.{placesIn, Cleared, Placed}
 use Rattle.fusing.proofs.Lists.{paste-rest}
 use Rattle.patterns.proofs.Parts.{part-is, part-length}
@@ -85,13 +85,13 @@ module _ (c n : ℕ) (w l : List ℕ) (fits : n * c ≤ length w) (o : Ordered c
 
   places-length : length placesOf ≡ n
   unfolding placesIn
-  places-length = length-map (rowsIn c n w) (λ r. place (sameRow r) (rowsAt c w l)) ∙ rows-length c n w
+  places-length = length-map (rowsIn c n w) (λ r. findIndex (sameRow r) (rowsAt c w l)) ∙ rows-length c n w
 
-  place-is : (i : ℕ) → i < n → getD placesOf i 0 ≡ place (sameRow (rowAt c w i)) (rowsAt c w l)
+  place-is : (i : ℕ) → i < n → getD placesOf i 0 ≡ findIndex (sameRow (rowAt c w i)) (rowsAt c w l)
   unfolding placesIn
   place-is i more =
-      map-at (λ s. place (sameRow s) (rowsAt c w l)) [] 0 (rowsIn c n w) i (omega (arith, rows-length c n w))
-      ∙ ap (λ (s : List ℕ). place (sameRow s) (rowsAt c w l)) (rows-at c n i w more)
+      map-at (λ s. findIndex (sameRow s) (rowsAt c w l)) [] 0 (rowsIn c n w) i (omega (arith, rows-length c n w))
+      ∙ ap (λ (s : List ℕ). findIndex (sameRow s) (rowsAt c w l)) (rows-at c n i w more)
 
   -- the number of the row i stands at p
   place-named : (i p : ℕ) → i < n → p < length l → getD l p 0 ≡ i → p ≡ getD placesOf i 0
@@ -99,8 +99,8 @@ module _ (c n : ℕ) (w l : List ℕ) (fits : n * c ≤ length w) (o : Ordered c
       let same : getD (rowsAt c w l) p (rowAt c w 0) ≡ rowAt c w i = List·getD-map (rowAt c w) l p 0 ∙ ap (rowAt c w) e in
       sym
       (place-is i more
-      ∙ ap (λ (s : List ℕ). place (sameRow s) (rowsAt c w l)) (sym same)
-      ∙ place-rising rows sameRow same-is (rowAt c w 0) (rowsAt c w l) p (ordered-listed c n w l o fits .rising) (omega (arith, length-map l (rowAt c w))))
+      ∙ ap (λ (s : List ℕ). findIndex (sameRow s) (rowsAt c w l)) (sym same)
+      ∙ findIndex-strict rows sameRow same-is (rowAt c w 0) (rowsAt c w l) p (ordered-listed c n w l o fits .strict) (omega (arith, length-map l (rowAt c w))))
 
   -- the row i
   module _ (i at : ℕ) (more : i < n) (here : at ≡ i * c) where
@@ -110,19 +110,19 @@ module _ (c n : ℕ) (w l : List ℕ) (fits : n * c ≤ length w) (o : Ordered c
     pub place-listed : Listed (length part) w l
     place-listed = subst (λ (k : ℕ). Listed k w l) (sym (part-length c n i w fits more at here)) (ordered-listed c n w l o fits)
 
-    pub place-stands : Stands part (rowsAt (length part) w l)
-    place-stands =
-        subst (λ (k : ℕ). Stands part (rowsAt k w l)) (sym (part-length c n i w fits more at here))
-        (subst (λ (r : List ℕ). Stands r (rowsAt c w l)) (sym (part-is c n i w fits more at here)) (ordered-stands c n w l o i more))
+    pub place-member : Member part (rowsAt (length part) w l)
+    place-member =
+        subst (λ (k : ℕ). Member part (rowsAt k w l)) (sym (part-length c n i w fits more at here))
+        (subst (λ (r : List ℕ). Member r (rowsAt c w l)) (sym (part-is c n i w fits more at here)) (ordered-member c n w l o i more))
 
-    pub places-turn : (found now : List ℕ) (r : ℕ) → n ≤ length found → r ≡ place (sameRow part) (rowsAt (length part) w l)
+    pub places-turn : (found now : List ℕ) (r : ℕ) → n ≤ length found → r ≡ findIndex (sameRow part) (rowsAt (length part) w l)
         → Pasted found 0 placesOf i now → Pasted found 0 placesOf (i + 1) (set now i r)
     places-turn found now r room e p =
         let size : length placesOf ≡ n = places-length in
         paste-turn found 0 placesOf i i now 0 r p (sym (zero-add i)) (omega arith) (omega arith)
         (e
-        ∙ ap (λ (k : ℕ). place (sameRow part) (rowsAt k w l)) (part-length c n i w fits more at here)
-        ∙ ap (λ (s : List ℕ). place (sameRow s) (rowsAt c w l)) (part-is c n i w fits more at here)
+        ∙ ap (λ (k : ℕ). findIndex (sameRow part) (rowsAt k w l)) (part-length c n i w fits more at here)
+        ∙ ap (λ (s : List ℕ). findIndex (sameRow s) (rowsAt c w l)) (part-is c n i w fits more at here)
         ∙ sym (place-is i more))
 
   -- the row i, whose place is there

@@ -8,13 +8,13 @@ use lib.ListN.{length, getD}
 use Rattle.definitions.specs.Limits.{maxUnionRows}
 use Rattle.definitions.specs.ComplementUnion.{agree, complement, complementAt}
 use Rattle.bitsets.specs.Bits.{has}
-use Rattle.cliques.specs.Graph.{near, Graph}
+use Rattle.cliques.specs.Graph.{adjacent, Graph}
 use Rattle.patterns.specs.Columns.{ColumnsOf}
 
 -- the words begin with the graph of these rows
 pub record GraphOf (rows : List (List ℕ)) (neighbours : List ℕ) : Type 0 where
   pub graph : Graph neighbours (length rows)
-  pub nears : (j k : ℕ) → j < length rows → k < length rows → near neighbours j k ≡ complementAt rows j k
+  pub adjacent-as : (j k : ℕ) → j < length rows → k < length rows → adjacent neighbours j k ≡ complementAt rows j k
 
 -- ---- the rows that cross a row
 
@@ -41,9 +41,9 @@ pub record CrossingRows (rows : List (List ℕ)) (neighbours : List ℕ) : Type 
 -- a row that is filled in a column keeps the neighbours of its group there, and those that are not filled; another row keeps its word
 pub record NarrowedBy (filled : ℕ) (leaders equal found neighbours : List ℕ) : Type 0 where
   pub held : (j k : ℕ) → has filled j ≡ true → k < maxUnionRows
-      → near neighbours j k ≡ (near found j k && (has (getD equal (getD leaders j 0) 0) k || not (has filled k)))
+      → adjacent neighbours j k ≡ (adjacent found j k && (has (getD equal (getD leaders j 0) 0) k || not (has filled k)))
   pub others : (j : ℕ) → has filled j ≡ false → getD neighbours j 0 ≡ getD found j 0
 
 -- each row keeps the neighbours that agree with it
 pub record Narrowed (rows : List (List ℕ)) (found neighbours : List ℕ) : Type 0 where
-  pub agrees : (j k : ℕ) → j < length rows → k < length rows → near neighbours j k ≡ (near found j k && agree (getD rows j []) (getD rows k []))
+  pub agrees : (j k : ℕ) → j < length rows → k < length rows → adjacent neighbours j k ≡ (adjacent found j k && agree (getD rows j []) (getD rows k []))

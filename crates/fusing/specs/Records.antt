@@ -4,14 +4,14 @@ use mathlib.Core.List.{List, [], _∷_, _++_, map, flatten}
 use Prim.Native.Nat.{ℕ, _<_}
 use lib.ListN.{length, getD, drop}
 use Rattle.definitions.specs.Limits.{markWords, setWidth}
-use Rattle.definitions.specs.Lists.{place}
+use Rattle.definitions.specs.Lists.{findIndex}
 use Rattle.definitions.specs.Word.{wordOf, headerWord}
 use Rattle.definitions.specs.ComplementUnion.{sameRow}
 use Rattle.definitions.specs.SetList.{marksFrom}
 
 -- the places of rows in a table
 unfoldable pub placesIn : List (List ℕ) → List (List ℕ) → List ℕ
-placesIn table rows = map (λ r. place (sameRow r) table) rows
+placesIn table rows = map (λ r. findIndex (sameRow r) table) rows
 
 -- the places of k rows are m, which is none, and the words past them are those found
 pub record Cleared (m k : ℕ) (found places : List ℕ) : Type 0 where

@@ -9,7 +9,7 @@ use lib.Dec.{eqb}
 use lib.ListN.{length, getD, drop, drop-of-length-le}
 use borrow.Author.Tests.{eq-eqb, ne-eqb}
 use Rattle.definitions.specs.Limits.{markWords}
-use Rattle.definitions.specs.Reading.{setIn, positionsOf, placeIn}
+use Rattle.definitions.specs.Reading.{setIn, positionsOf, positionIn}
 use Rattle.definitions.specs.Text.{ascii, decimal}
 use Rattle.definitions.specs.Listing.{line, setLine}
 use Rattle.definitions.proofs.Bools.{bool-cases}
@@ -83,10 +83,10 @@ module _ (b : List ℕ) (at : ℕ) (words : List ℕ) (h : at + length (recordLi
   positions = listed (positionsOf 0 (setIn markWords words))
 
   abbrev pub behind : List ℕ
-  behind = later (decimal (placeIn markWords words) ∷ [])
+  behind = later (decimal (positionIn markWords words) ∷ [])
 
   line-left : Writing b at (recordLine words) (positions ++ (62 ∷ behind)) b at
-  line-left = rest-as (set-text (positionsOf 0 (setIn markWords words)) (placeIn markWords words)) (starts b at (recordLine words) h)
+  line-left = rest-as (set-text (positionsOf 0 (setIn markWords words)) (positionIn markWords words)) (starts b at (recordLine words) h)
 
   pub positions-fit : at + length positions ≤ length b
   positions-fit = fits-next positions (62 ∷ behind) line-left

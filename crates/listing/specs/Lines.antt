@@ -6,7 +6,7 @@ use lib.Dec.{eqb}
 use lib.ListN.{drop}
 use Rattle.definitions.specs.Limits.{setWidth, markWords}
 use Rattle.definitions.specs.Image.{columnCount, cellWords, rowsIn}
-use Rattle.definitions.specs.Reading.{setIn, placeIn, positionsOf}
+use Rattle.definitions.specs.Reading.{setIn, positionIn, positionsOf}
 use Rattle.definitions.specs.Text.{decimal}
 use Rattle.definitions.specs.Listing.{setLine}
 use Rattle.definitions.specs.Program.{rowLines}
@@ -17,7 +17,7 @@ tableLines image n = rowLines (rowsIn (columnCount image) n (cellWords image))
 
 -- the set line of a record
 abbrev pub recordLine : List ℕ → List ℕ
-recordLine words = setLine (positionsOf 0 (setIn markWords words)) (placeIn markWords words)
+recordLine words = setLine (positionsOf 0 (setIn markWords words)) (positionIn markWords words)
 
 -- the lines of the first n records behind a header
 abbrev pub recordLines : List ℕ → ℕ → List ℕ

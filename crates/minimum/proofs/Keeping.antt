@@ -8,10 +8,10 @@ use native.Mathlib.Omega.{arith}
 use lib.ListN.{length, set, take}
 use lib.Seq.{take-suc-set, take-all}
 use Rattle.definitions.specs.Limits.{maxUnionRows}
-use Rattle.definitions.specs.Lists.{any, keep, sumBelow}
+use Rattle.definitions.specs.Lists.{any, filter, sumBelow}
 use Rattle.definitions.specs.Image.{rowsIn}
 use Rattle.definitions.specs.MinimumUnion.{subsumes, minimumRows, pairsTried}
-use Rattle.definitions.proofs.Lists.{keep-took, keep-left}
+use Rattle.definitions.proofs.Lists.{keep-took, filter-left}
 use Rattle.lists.proofs.Flat.{rows-length, rows-at}
 use Rattle.rows.specs.Numbers.{rowAt, rowsAt, Below}
 use Rattle.minimum.specs.Trying.{triesAt, TriedRow, KeptRows}
@@ -28,12 +28,12 @@ stays rows t = not (any (λ s. subsumes s t) rows)
 pub record KeptTo (c n : ℕ) (w numbers : List ℕ) (m pairs k : ℕ) : Type 0 where
   pub count : m ≤ k
   pub below : Below n (take m numbers)
-  pub rows : rowsAt c w (take m numbers) ≡ keep (stays (rowsIn c n w)) (take k (rowsIn c n w))
+  pub rows : rowsAt c w (take m numbers) ≡ filter (stays (rowsIn c n w)) (take k (rowsIn c n w))
   pub tried : pairs ≡ sumBelow k (triesAt (rowsIn c n w))
   pub bound : pairs ≤ k * maxUnionRows
 
 pub kept-none : (c n : ℕ) (w numbers : List ℕ) → KeptTo c n w numbers 0 0 0
-unfolding keep sumBelow
+unfolding filter sumBelow
 kept-none c n w numbers = record { count = omega arith; below = tt; rows = refl; tried = refl; bound = omega arith }
 
 module _ {c n : ℕ} {w numbers : List ℕ} {m pairs k : ℕ} (inv : KeptTo c n w numbers m pairs k) where
@@ -56,7 +56,7 @@ module _ {c n : ℕ} {w numbers : List ℕ} {m pairs k : ℕ} (inv : KeptTo c n 
     subsumed-left s = record {
       count = omega (arith, inv .count);
       below = inv .below;
-      rows = inv .rows ∙ sym (keep-left (stays (rowsIn c n w)) [] (rowsIn c n w) k within (ap not (sym (told .found) ∙ s)));
+      rows = inv .rows ∙ sym (filter-left (stays (rowsIn c n w)) [] (rowsIn c n w) k within (ap not (sym (told .found) ∙ s)));
       tried = sum-more;
       bound = bound-more;
     }
@@ -82,6 +82,6 @@ module _ {c n : ℕ} {w numbers : List ℕ} {m pairs k : ℕ} (inv : KeptTo c n 
   kept-rows all = record {
     count = omega (arith, inv .count);
     below = inv .below;
-    rows = inv .rows ∙ ap (keep (stays (rowsIn c n w))) (take-all k (rowsIn c n w) (omega (arith, rows-length c n w)));
+    rows = inv .rows ∙ ap (filter (stays (rowsIn c n w))) (take-all k (rowsIn c n w) (omega (arith, rows-length c n w)));
     tried = inv .tried ∙ ap (λ (i : ℕ). sumBelow i (triesAt (rowsIn c n w))) (all ∙ sym (rows-length c n w));
   }

@@ -16,7 +16,7 @@ use Rattle.definitions.specs.Word.{isFilled}
 use Rattle.definitions.specs.Image.{rowsIn}
 use Rattle.definitions.specs.MinimumUnion.{filled, covers, subsumes}
 use Rattle.definitions.proofs.Bools.{bool-cases, clash, not-so}
-use Rattle.definitions.proofs.Lists.{stands-get, stands-at, any-of, any-none}
+use Rattle.definitions.proofs.Lists.{member-get, member-at, any-of, any-none}
 use Rattle.definitions.proofs.Rows.{filled-cell, covers-at}
 use Rattle.definitions.proofs.Subsumption.{subsumes-is, subsumes-self}
 use Rattle.lists.proofs.Flat.{rows-length, rows-at, row-fits, part-row}
@@ -157,7 +157,7 @@ module _ {width n : ℕ} {w counts fuller columns : List ℕ} {k : ℕ} (own : k
         λ i g. not-so (subsumes (at i) (at k)) (λ q. clash (left .all i g q) (ap (λ (x : ℕ). has x i) none ∙ has-none i)) in
         record {
           found = is ∙ sym (any-none (λ s. subsumes s (at k)) rows (λ s g.
-              let i = stands-at [] s rows g in
+              let i = member-at [] s rows g in
               ap (λ (u : List ℕ). subsumes u (at k)) (sym (i .2)) ∙ passed (i .0) (omega (arith, i .1))));
           tried = omega (arith, few, others-all (at k) rows k within (λ i g. passed i (omega arith)));
           fewer = omega arith;
@@ -173,7 +173,7 @@ module _ {width n : ℕ} {w counts fuller columns : List ℕ} {k : ℕ} (own : k
         λ i g. not-so (subsumes (at i) (at k)) (λ q. clash (left .all i (omega arith) q) (low .below i g)) in
         let u : subsumes (at j) (at k) ≡ true = subsumes-is (at j) (at k) .1 (more .1, f) in
         record {
-          found = is ∙ sym (any-of (λ s. subsumes s (at k)) (at j) rows (stands-get [] rows j (omega arith)) u);
+          found = is ∙ sym (any-of (λ s. subsumes s (at k)) (at j) rows (member-get [] rows j (omega arith)) u);
           tried = e ∙ three-cases k j
               (λ g. rw (lt-ltb k looked (omega arith)) (omega (arith, others-after (at k) rows k within j (omega arith) p u g)))
               (λ g. absurd (clash u (ap (λ (i : ℕ). subsumes (at i) (at k)) g ∙ subsumes-self (at k))))

@@ -11,12 +11,12 @@ use borrow.Author.Count.{below-more}
 use Rattle.definitions.specs.Limits.{maxColumns, maxUnionRows}
 use Rattle.definitions.specs.Word.{isFilled}
 use Rattle.definitions.specs.Image.{rowsIn}
-use Rattle.definitions.specs.ComplementUnion.{marked}
+use Rattle.definitions.specs.ComplementUnion.{contains}
 use Rattle.definitions.specs.SetList.{bits}
 use Rattle.definitions.proofs.Bools.{bool-cases}
 use Rattle.definitions.proofs.Lists.{map-at}
 use Rattle.definitions.proofs.Rows.{cell-filled, cell-empty}
-use Rattle.definitions.proofs.Sets.{marked-get, holds-within}
+use Rattle.definitions.proofs.Sets.{contains-get, holds-within}
 use Rattle.lists.proofs.Flat.{rows-length}
 use Rattle.bitsets.specs.Bits.{has, rowsBelow}
 use Rattle.bitsets.proofs.Bits.{has-bits, has-none, below-in}
@@ -44,13 +44,13 @@ pub filled-has : (rows : List (List ℕ)) (column k : ℕ) → k < length rows �
 unfolding filledIn
 filled-has rows column k h =
     let f : List ℕ → Bool = λ r. isFilled (getD r column 0) in
-    has-bits (map f rows) k ∙ marked-get (map f rows) k ∙ map-at f [] (isFilled 0) rows k h
+    has-bits (map f rows) k ∙ contains-get (map f rows) k ∙ map-at f [] (isFilled 0) rows k h
 
 pub filled-within : (rows : List (List ℕ)) (column k : ℕ) → has (filledIn rows column) k ≡ true → k < length rows
 unfolding filledIn
 filled-within rows column k h =
     let f : List ℕ → Bool = λ r. isFilled (getD r column 0) in
-    let m : marked (map f rows) k ≡ true = sym (has-bits (map f rows) k) ∙ h in
+    let m : contains (map f rows) k ≡ true = sym (has-bits (map f rows) k) ∙ h in
     omega (arith, holds-within (map f rows) k m, length-map rows f)
 
 -- ---- one row more in the columns' words

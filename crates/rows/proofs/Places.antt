@@ -6,20 +6,20 @@ use Prim.Native.Nat.{ℕ, _+_, _*_, _<_, _≤_}
 use native.Mathlib.Omega.{arith}
 use lib.ListN.{length, getD, take}
 use Rattle.definitions.specs.Image.{rowsIn}
-use Rattle.definitions.specs.Lists.{place}
+use Rattle.definitions.specs.Lists.{findIndex}
 use Rattle.definitions.specs.OuterUnion.{compareRow}
 use Rattle.definitions.specs.ComplementUnion.{sameRow}
-use Rattle.definitions.proofs.Lists.{stands-get, place-rising}
+use Rattle.definitions.proofs.Lists.{member-get, findIndex-strict}
 use Rattle.definitions.proofs.Ascending.{ascending-has}
 use Rattle.definitions.proofs.Orders.{rows}
 use Rattle.definitions.proofs.Rows.{same-is}
 use Rattle.definitions.specs.declared.Order.{Order}
 use Rattle.definitions.specs.declared.Order.the-variants.{Before, Same, After}
-use Rattle.definitions.specs.Statements.{Stands}
+use Rattle.definitions.specs.Statements.{Member}
 use Rattle.lists.specs.declared.Spot.{Spot}
 use Rattle.lists.specs.declared.Spot.the-variants.{Free, Taken}
 use Rattle.lists.specs.Spot.{spotIn}
-use Rattle.lists.proofs.Search.{Between, search-starts, search-up, search-down, search-found, search-ends, taken-stands, stands-not-free}
+use Rattle.lists.proofs.Search.{Between, search-starts, search-up, search-down, search-found, search-ends, taken-member, member-not-free}
 use Rattle.lists.proofs.Flat.{rows-length, rows-at}
 use Rattle.rows.specs.Numbers.{rowAt, rowsAt, Listed, Ordered}
 use Rattle.rows.proofs.Numbers.{ascending-listed, rows-length-at, row-named}
@@ -28,11 +28,11 @@ module _ (c n : ℕ) (w l : List ℕ) (o : Ordered c n w l) where
   pub ordered-listed : n * c ≤ length w → Listed c w l
   ordered-listed h = ascending-listed c n w l (rowsIn c n w) h (o .below) (o .rows)
 
-  pub ordered-stands : (i : ℕ) → i < n → Stands (rowAt c w i) (rowsAt c w l)
-  ordered-stands i h =
-      subst (Stands (rowAt c w i)) (sym (o .rows))
+  pub ordered-member : (i : ℕ) → i < n → Member (rowAt c w i) (rowsAt c w l)
+  ordered-member i h =
+      subst (Member (rowAt c w i)) (sym (o .rows))
       (ascending-has rows (rowAt c w i) (rowsIn c n w)
-      (subst (λ (r : List ℕ). Stands r (rowsIn c n w)) (rows-at c n i w h) (stands-get [] (rowsIn c n w) i (omega (arith, rows-length c n w)))))
+      (subst (λ (r : List ℕ). Member r (rowsIn c n w)) (rows-at c n i w h) (member-get [] (rowsIn c n w) i (omega (arith, rows-length c n w)))))
 
 -- ---- binary search
 
@@ -43,10 +43,10 @@ Sought c m w o row lo hi = (hi ≤ m) × Between compareRow (rowAt c w 0) row (r
 module _ (c m : ℕ) (w o row : List ℕ) (within : m ≤ length o) (listed : Listed c w (take m o)) where
   pub search-all : Sought c m w o row 0 m
   search-all =
-      (omega arith, search-starts rows (rowAt c w 0) row (rowsAt c w (take m o)) (listed .rising) m (rows-length-at c w m o within))
+      (omega arith, search-starts rows (rowAt c w 0) row (rowsAt c w (take m o)) (listed .strict) m (rows-length-at c w m o within))
 
   pub search-over : (lo hi : ℕ) → Sought c m w o row lo hi → hi ≤ lo → Free lo ≡ spotIn compareRow row (rowsAt c w (take m o))
-  search-over lo hi b h = sym (search-ends rows (rowAt c w 0) row (rowsAt c w (take m o)) (listed .rising) lo hi (b .1) h)
+  search-over lo hi b h = sym (search-ends rows (rowAt c w 0) row (rowsAt c w (take m o)) (listed .strict) lo hi (b .1) h)
 
   -- what the comparison with the row of the number at mid tells
   module _ (lo hi mid : ℕ) (b : Sought c m w o row lo hi) (above : lo ≤ mid) (below : mid < hi) (r : Order) (told : r ≡ compareRow row (rowAt c w (getD o mid 0))) where
@@ -55,25 +55,25 @@ module _ (c m : ℕ) (w o row : List ℕ) (within : m ≤ length o) (listed : Li
 
     pub search-before : r ≡ Before → Sought c m w o row lo mid
     search-before e =
-        (omega (arith, b .0), search-down rows (rowAt c w 0) row (rowsAt c w (take m o)) (listed .rising) lo hi mid (b .1) above below (compared Before e))
+        (omega (arith, b .0), search-down rows (rowAt c w 0) row (rowsAt c w (take m o)) (listed .strict) lo hi mid (b .1) above below (compared Before e))
 
     pub search-after : r ≡ After → Sought c m w o row (mid + 1) hi
     search-after e =
-        (b .0, search-up rows (rowAt c w 0) row (rowsAt c w (take m o)) (listed .rising) lo hi mid (b .1) above below (compared After e))
+        (b .0, search-up rows (rowAt c w 0) row (rowsAt c w (take m o)) (listed .strict) lo hi mid (b .1) above below (compared After e))
 
     pub search-same : r ≡ Same → Taken mid ≡ spotIn compareRow row (rowsAt c w (take m o))
     search-same e =
-        sym (search-found rows (rowAt c w 0) row (rowsAt c w (take m o)) (listed .rising) lo hi mid (b .1) above below (compared Same e))
+        sym (search-found rows (rowAt c w 0) row (rowsAt c w (take m o)) (listed .strict) lo hi mid (b .1) above below (compared Same e))
 
   -- what the spot that was found tells of the place of a row that stands there
   module _ (r : Spot) (told : r ≡ spotIn compareRow row (rowsAt c w (take m o))) (p : ℕ) where
-    pub place-taken : r ≡ Taken p → (p ≡ place (sameRow row) (rowsAt c w (take m o))) × (p < m)
+    pub place-taken : r ≡ Taken p → (p ≡ findIndex (sameRow row) (rowsAt c w (take m o))) × (p < m)
     place-taken e =
         let t = rowsAt c w (take m o) in
-        let h = taken-stands rows [] row t p (sym told ∙ e) in (
-          sym (ap (λ (x : List ℕ). place (sameRow x) t) (sym (h .1)) ∙ place-rising rows sameRow same-is [] t p (listed .rising) (h .0)),
+        let h = taken-member rows [] row t p (sym told ∙ e) in (
+          sym (ap (λ (x : List ℕ). findIndex (sameRow x) t) (sym (h .1)) ∙ findIndex-strict rows sameRow same-is [] t p (listed .strict) (h .0)),
           omega (arith, h .0, rows-length-at c w m o within),
         )
 
-    pub never-free : Stands row (rowsAt c w (take m o)) → r ≡ Free p → ⊥
-    never-free h e = stands-not-free rows row (rowsAt c w (take m o)) p (listed .rising) h (sym told ∙ e)
+    pub never-free : Member row (rowsAt c w (take m o)) → r ≡ Free p → ⊥
+    never-free h e = member-not-free rows row (rowsAt c w (take m o)) p (listed .strict) h (sym told ∙ e)

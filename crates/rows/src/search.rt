@@ -2,10 +2,10 @@
 ghost use mathlib.Core.Path.{_≡_};
 ghost use Prim.Native.Nat.{_≤_, _<_};
 ghost use lib.ListN.{length, take};
-ghost use Rattle.definitions.specs.Lists.{place};
+ghost use Rattle.definitions.specs.Lists.{findIndex};
 ghost use Rattle.definitions.specs.OuterUnion.{compareRow};
 ghost use Rattle.definitions.specs.ComplementUnion.{sameRow};
-ghost use Rattle.definitions.specs.Statements.{Stands};
+ghost use Rattle.definitions.specs.Statements.{Member};
 ghost use Rattle.lists.specs.Spot.{spotIn};
 ghost use Rattle.rows.specs.Numbers.{rowsAt, Listed};
 use crate::compare::compare_with;
@@ -36,8 +36,8 @@ pub fn find_row(cells: &[u32], order: &[u32], m: usize, row: &[u32]) -> Spot
 
 // The position of a row that stands among the rows at the first m numbers.
 pub fn place_of(cells: &[u32], order: &[u32], m: usize, row: &[u32]) -> usize
-    requires { ⌜ (m ≤ length (now order)) × Listed (length (now row)) (now cells) (take m (now order)) × Stands (now row) (rowsAt (length (now row)) (now cells) (take m (now order))) ⌝ }
-    ensures { λ r. ⌜ (r ≡ place (sameRow (now (row .entry))) (rowsAt (length (now (row .entry))) (now (cells .entry)) (take m (now (order .entry))))) × (r < m) ⌝ }
+    requires { ⌜ (m ≤ length (now order)) × Listed (length (now row)) (now cells) (take m (now order)) × Member (now row) (rowsAt (length (now row)) (now cells) (take m (now order))) ⌝ }
+    ensures { λ r. ⌜ (r ≡ findIndex (sameRow (now (row .entry))) (rowsAt (length (now (row .entry))) (now (cells .entry)) (take m (now (order .entry))))) × (r < m) ⌝ }
 {
     match find_row(cells, order, m, row) {
         Spot::Taken(p) => p,

@@ -8,19 +8,19 @@ use native.Mathlib.Omega.{arith}
 use lib.Dec.{eqb}
 use lib.ListN.{length, getD, set, take, drop, length-set, length-map}
 use lib.Seq.{paste, take-all, take-take, take-append-le, take-set-le, take-suc-set, length-take-le}
-use Rattle.definitions.specs.Limits.{maxColumns, maxRows}
-use Rattle.definitions.specs.Lists.{any, keep, distinct}
+use Rattle.definitions.specs.Limits.{maxColumns, maxRows, maxIds}
+use Rattle.definitions.specs.Lists.{any, filter, distinct}
 use Rattle.definitions.specs.Word.{idOf}
 use Rattle.definitions.specs.Image.{columnCount, imageIds}
 use Rattle.definitions.specs.Ascending.{ascending}
 use Rattle.definitions.specs.OuterUnion.{compareWord, unionIds}
 use Rattle.definitions.specs.Questions.{imageNumber}
-use Rattle.definitions.proofs.Lists.{keep-took, keep-left}
+use Rattle.definitions.proofs.Lists.{keep-took, filter-left}
 use Rattle.definitions.proofs.Questions.{passed-is}
 use Rattle.definitions.proofs.Images.{passed-ids}
 use Rattle.images.proofs.Parts.{columns-part}
 use Rattle.lists.proofs.Pastes.{paste-front}
-use Rattle.tables.specs.Places.{maxIds, withNew, BothIds}
+use Rattle.tables.specs.Places.{withNew, BothIds}
 use Rattle.tables.proofs.Smaller.{distinct-count, new-distinct, new-ascending}
 
 -- ---- the loop: i ids are looked at, and those that are new stand after the first m
@@ -37,14 +37,14 @@ module _ (ids₀ : List ℕ) (m : ℕ) (more : List ℕ) (room : m + length more
   new id = not (any (eqb id) (take m ids₀))
 
   pub adding-none : Adding ids₀ m more m 0 ids₀
-  unfolding keep
+  unfolding filter
   adding-none = record { size = refl; looked = omega arith; some = omega arith; few = omega arith; are = sym (append-nil (take m ids₀)) }
 
   module _ (n i : ℕ) (ids : List ℕ) (s : Adding ids₀ m more n i ids) (h : i < length more) (d v n′ : ℕ) (ev : v ≡ getD more i d) where
     known-kept : take m ids ≡ take m ids₀
     known-kept =
         let e = length-take-le m ids₀ (omega arith) in
-        sym (take-take m n ids (s .some)) ∙ ap (take m) (s .are) ∙ take-append-le m (take m ids₀) (keep new (take i more)) (omega arith)
+        sym (take-take m n ids (s .some)) ∙ ap (take m) (s .are) ∙ take-append-le m (take m ids₀) (filter new (take i more)) (omega arith)
         ∙ take-all m (take m ids₀) (omega arith)
 
     test : (b : Bool) → any (eqb v) (take m ids) ≡ b → new (getD more i d) ≡ not b
@@ -57,7 +57,7 @@ module _ (ids₀ : List ℕ) (m : ℕ) (more : List ℕ) (room : m + length more
       some = omega (arith, s .some);
       few = omega (arith, s .few);
       are = ap (λ (k : ℕ). take k (set ids n v)) q ∙ take-set-le n ids n v (omega arith) ∙ s .are
-          ∙ ap (λ (l : List ℕ). take m ids₀ ++ l) (sym (keep-left new d more i h (test true e)));
+          ∙ ap (λ (l : List ℕ). take m ids₀ ++ l) (sym (filter-left new d more i h (test true e)));
     }
 
     pub adding-new : any (eqb v) (take m ids) ≡ false → n′ ≡ n + 1 → Adding ids₀ m more n′ (i + 1) (set ids n v)
@@ -71,7 +71,7 @@ module _ (ids₀ : List ℕ) (m : ℕ) (more : List ℕ) (room : m + length more
           few = omega (arith, s .few);
           are = ap (λ (k : ℕ). take k (set ids n v)) (q ∙ add-one n) ∙ take-suc-set ids n v (omega arith)
               ∙ ap₂ (λ (l : List ℕ) (x : ℕ). l ++ (x ∷ [])) (s .are) ev
-              ∙ append-assoc (take m ids₀) (keep new (take i more)) (getD more i d ∷ [])
+              ∙ append-assoc (take m ids₀) (filter new (take i more)) (getD more i d ∷ [])
               ∙ ap (λ (l : List ℕ). take m ids₀ ++ l) (sym (keep-took new d more i h (test false e)));
         }
 

@@ -13,16 +13,16 @@ use borrow.Author.Tests.{eqb-true, eqb-false, eq-eqb, ltb-true, ltb-false}
 use Rattle.definitions.specs.Lists.{any, distinct}
 use Rattle.definitions.specs.Ascending.{ascending}
 use Rattle.definitions.specs.OuterUnion.{compareWord, cellIn, widened}
-use Rattle.definitions.specs.Statements.{Stands, Rising}
+use Rattle.definitions.specs.Statements.{Member, StrictlyAscending}
 use Rattle.definitions.proofs.Bools.{bool-cases, clash}
-use Rattle.definitions.proofs.Ascending.{is-rising, ascending-only, ascending-has}
+use Rattle.definitions.proofs.Ascending.{is-strict, ascending-only, ascending-has}
 use Rattle.definitions.proofs.Orders.{words}
-use Rattle.definitions.proofs.Lists.{stands-get, stands-at, stands-map, map-stands, map-ext, any-of}
+use Rattle.definitions.proofs.Lists.{member-get, member-at, member-map, map-member, map-ext, any-of}
 use Rattle.definitions.proofs.Widened.{cell-own, widened-own, widened-lacking}
 use Rattle.lists.proofs.Pastes.{paste-front}
 use Rattle.lists.proofs.Walks.{next, end}
 use Rattle.tables.specs.Places.{smallerThan, placesIn, scattered}
-use Rattle.tables.proofs.Smaller.{smaller-place, smaller-stands, smaller-ascending, distinct-count, known-stands}
+use Rattle.tables.proofs.Smaller.{smaller-place, smaller-member, smaller-ascending, distinct-count, known-member}
 
 -- ---- the loop: j cells are written
 
@@ -86,7 +86,7 @@ scatter-size at (p ∷ places) (v ∷ row) cells = scatter-size at places row (s
 -- where each cell is written as it is to be, what was right already, or is written, is right
 scatter-tells : (d : ℕ) (goal : List ℕ) (at : ℕ) (places row cells : List ℕ) → length row ≡ length places
     → ((j : ℕ) → j < length places → (at + getD places j d < length cells) × (getD row j 0 ≡ getD goal (at + getD places j d) 0))
-    → (i : ℕ) → (getD cells i 0 ≡ getD goal i 0) ⊎ ((p : ℕ) × Stands p places × (i ≡ at + p)) → getD (scattered cells at places row) i 0 ≡ getD goal i 0
+    → (i : ℕ) → (getD cells i 0 ≡ getD goal i 0) ⊎ ((p : ℕ) × Member p places × (i ≡ at + p)) → getD (scattered cells at places row) i 0 ≡ getD goal i 0
 unfolding scattered
 scatter-tells d goal at [] row cells e f i h = ⊎-elim (λ q. q) (λ q. absurd (q .1)) h
 scatter-tells d goal at (p ∷ places) [] cells e f i h = absurd (omega arith)
@@ -108,8 +108,8 @@ empty-cells zero k = refl
 empty-cells (suc n) zero = refl
 empty-cells (suc n) (suc k) = empty-cells n k
 
-module _ (union ids row cells : List ℕ) (at : ℕ) (rising : Rising compareWord union) (differ : distinct eqb ids ≡ true)
-    (has : (id : ℕ) → Stands id ids → Stands id union) (even : length row ≡ length ids) (fits : at + length union ≤ length cells)
+module _ (union ids row cells : List ℕ) (at : ℕ) (strict : StrictlyAscending compareWord union) (differ : distinct eqb ids ≡ true)
+    (has : (id : ℕ) → Member id ids → Member id union) (even : length row ≡ length ids) (fits : at + length union ≤ length cells)
     (empty : (k : ℕ) → k < length union → getD cells (at + k) 0 ≡ 0) where
   wide : length (widened union ids row) ≡ length union
   unfolding widened
@@ -121,7 +121,7 @@ module _ (union ids row cells : List ℕ) (at : ℕ) (rising : Rising compareWor
   place-holds : (j : ℕ) → j < length ids
       → (at + getD (placesIn union ids) j (smallerThan 0 union) < length cells) × (getD row j 0 ≡ getD goal (at + getD (placesIn union ids) j (smallerThan 0 union)) 0)
   place-holds j h =
-      let s = smaller-stands (getD ids j 0) union rising (has (getD ids j 0) (stands-get 0 ids j h)) in
+      let s = smaller-member (getD ids j 0) union strict (has (getD ids j 0) (member-get 0 ids j h)) in
       let e = List·getD-map (λ id. smallerThan id union) ids j 0 in
       let k = smallerThan (getD ids j 0) union in (
         omega (arith, s .0),
@@ -129,27 +129,27 @@ module _ (union ids row cells : List ℕ) (at : ℕ) (rising : Rising compareWor
             ∙ widened-own union ids row differ k j (s .0) h (s .1)),
       )
 
-  within : (k : ℕ) → k < length union → (getD cells (at + k) 0 ≡ getD goal (at + k) 0) ⊎ ((p : ℕ) × Stands p (placesIn union ids) × (at + k ≡ at + p))
+  within : (k : ℕ) → k < length union → (getD cells (at + k) 0 ≡ getD goal (at + k) 0) ⊎ ((p : ℕ) × Member p (placesIn union ids) × (at + k ≡ at + p))
   within k h =
       let u = getD union k 0 in
       let e = paste-within cells at (widened union ids row) (length union) fits (omega (arith, wide)) k h in
       bool-cases (any (eqb u) ids)
       (λ b. inr (
         k,
-        subst (λ (p : ℕ). Stands p (placesIn union ids)) (smaller-place union k rising h)
-            (stands-map (λ id. smallerThan id union) u ids (known-stands u ids b)),
+        subst (λ (p : ℕ). Member p (placesIn union ids)) (smaller-place union k strict h)
+            (member-map (λ id. smallerThan id union) u ids (known-member u ids b)),
         refl,
       ))
       (λ b. inl (empty k h ∙ sym (e ∙ widened-lacking union ids row even k h (λ s. clash (any-of (eqb u) u ids s (eq-eqb u u refl)) b))))
 
-  anywhere : (i : ℕ) → (getD cells i 0 ≡ getD goal i 0) ⊎ ((p : ℕ) × Stands p (placesIn union ids) × (i ≡ at + p))
+  anywhere : (i : ℕ) → (getD cells i 0 ≡ getD goal i 0) ⊎ ((p : ℕ) × Member p (placesIn union ids) × (i ≡ at + p))
   anywhere i =
       bool-cases (ltb i at)
       (λ b. inl (sym (paste-before cells at (widened union ids row) (length union) fits (omega (arith, wide)) i (ltb-true i at b))))
       (λ b. bool-cases (ltb i (at + length union))
       (λ q. let l = ltb-true i (at + length union) q in let g = ltb-false i at b in
       let e : at + (i - at) ≡ i = omega arith in
-      subst (λ (x : ℕ). (getD cells x 0 ≡ getD goal x 0) ⊎ ((p : ℕ) × Stands p (placesIn union ids) × (x ≡ at + p))) e (within (i - at) (omega arith)))
+      subst (λ (x : ℕ). (getD cells x 0 ≡ getD goal x 0) ⊎ ((p : ℕ) × Member p (placesIn union ids) × (x ≡ at + p))) e (within (i - at) (omega arith)))
       (λ q. inl (sym (paste-after cells at (widened union ids row) (length union) fits (omega (arith, wide)) i (ltb-false i (at + length union) q)))))
 
   pub scatter-widened : scattered cells at (placesIn union ids) row ≡ goal
@@ -160,10 +160,10 @@ module _ (union ids row cells : List ℕ) (at : ℕ) (rising : Rising compareWor
       (λ i h. scatter-tells (smallerThan 0 union) goal at (placesIn union ids) row cells (even ∙ sym count) (λ j g. place-holds j (omega arith)) i (anywhere i))
 
 -- a place of an id is within the union
-pub places-within : (union ids : List ℕ) → Rising compareWord union → ((id : ℕ) → Stands id ids → Stands id union) → (p : ℕ) → Stands p (placesIn union ids) → p < length union
-places-within union ids rising has p h =
-    let m = map-stands (λ id. smallerThan id union) p ids h in
-    let s = smaller-stands (m .0) union rising (has (m .0) (m .1)) in
+pub places-within : (union ids : List ℕ) → StrictlyAscending compareWord union → ((id : ℕ) → Member id ids → Member id union) → (p : ℕ) → Member p (placesIn union ids) → p < length union
+places-within union ids strict has p h =
+    let m = map-member (λ id. smallerThan id union) p ids h in
+    let s = smaller-member (m .0) union strict (has (m .0) (m .1)) in
     omega (arith, s .0, m .2)
 
 -- places are counted in distinct ids as they are among the ids in order
@@ -173,7 +173,7 @@ places-ordered all ids differ =
 
 -- ---- distinct ids, each written at the number of smaller ones, are ascending
 
-own-cells : (f : ℕ → ℕ) (l : List ℕ) → ((x : ℕ) → Stands x l → f x ≡ x) → map f l ≡ l
+own-cells : (f : ℕ → ℕ) (l : List ℕ) → ((x : ℕ) → Member x l → f x ≡ x) → map f l ≡ l
 own-cells f [] h = refl
 own-cells f (x ∷ l) h = ap₂ (λ (y : ℕ) (r : List ℕ). y ∷ r) (h x (inl refl)) (own-cells f l (λ y s. h y (inr s)))
 
@@ -186,7 +186,7 @@ module _ (all cells cur : List ℕ) (differ : distinct eqb all ≡ true) (room :
   unfolding widened
   sorted-own =
       own-cells (cellIn all all) sorted (λ x s.
-      let i = stands-at 0 x all (ascending-only words x all s) in
+      let i = member-at 0 x all (ascending-only words x all s) in
       ap (cellIn all all) (sym (i .2)) ∙ cell-own sorted all all differ (i .0) (i .1) ∙ i .2)
 
   pub ids-sorted : (take (length all) cur ≡ sorted) × (length all ≡ length sorted)
@@ -194,5 +194,5 @@ module _ (all cells cur : List ℕ) (differ : distinct eqb all ≡ true) (room :
       let count : length sorted ≡ length all = distinct-count all differ in
       let goal : cur ≡ paste cells 0 (widened sorted all all) (length sorted) =
       written ∙ ap (λ (l : List ℕ). scattered cells 0 l all) (places-ordered all all differ)
-      ∙ scatter-widened sorted all all cells 0 (is-rising words all) differ (λ id s. ascending-has words id all s) refl (omega arith) (λ k h. empty (0 + k)) in
+      ∙ scatter-widened sorted all all cells 0 (is-strict words all) differ (λ id s. ascending-has words id all s) refl (omega arith) (λ k h. empty (0 + k)) in
       (paste-front cells sorted cur (length all) count (goal ∙ ap₂ (λ (l : List ℕ) (n : ℕ). paste cells 0 l n) sorted-own count), sym count)

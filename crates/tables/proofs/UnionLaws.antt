@@ -12,8 +12,8 @@ use Rattle.definitions.specs.Image.{rowCount, imageIds, rowsIn}
 use Rattle.definitions.specs.Ascending.{ascending}
 use Rattle.definitions.specs.OuterUnion.{compareWord, compareRow, widenedRows, unionIds}
 use Rattle.definitions.specs.Questions.{imageNumber}
-use Rattle.definitions.specs.Statements.{Stands, Rising}
-use Rattle.definitions.proofs.Ascending.{stands-join, is-rising, ascending-only, ascending-has}
+use Rattle.definitions.specs.Statements.{Member, StrictlyAscending}
+use Rattle.definitions.proofs.Ascending.{member-join, is-strict, ascending-only, ascending-has}
 use Rattle.definitions.proofs.Orders.{words, rows}
 use Rattle.definitions.proofs.Questions.{passed-is}
 use Rattle.definitions.proofs.Images.{widened-count}
@@ -146,8 +146,8 @@ pub union-covers : (a b union : List ℕ) → union ≡ unionIds a b → Covers 
 unfolding unionIds
 union-covers a b union e =
     let both = imageIds a ++ imageIds b in
-    let up : Rising compareWord union = subst (Rising compareWord) (sym e) (is-rising words both) in
-    let in-union : (id : ℕ) → Stands id both → Stands id union = λ id h. subst (Stands id) (sym e) (ascending-has words id both h) in (
-      record { rising = up; has = λ id h. in-union id (stands-join id (imageIds a) (imageIds b) (inl h)) },
-      record { rising = up; has = λ id h. in-union id (stands-join id (imageIds a) (imageIds b) (inr h)) },
+    let up : StrictlyAscending compareWord union = subst (StrictlyAscending compareWord) (sym e) (is-strict words both) in
+    let in-union : (id : ℕ) → Member id both → Member id union = λ id h. subst (Member id) (sym e) (ascending-has words id both h) in (
+      record { strict = up; has = λ id h. in-union id (member-join id (imageIds a) (imageIds b) (inl h)) },
+      record { strict = up; has = λ id h. in-union id (member-join id (imageIds a) (imageIds b) (inr h)) },
     )

@@ -11,8 +11,8 @@ use Rattle.definitions.specs.Word.{idOf}
 use Rattle.definitions.specs.Image.{columnCount, rowCount, cellWords, imageIds, imageRows}
 use Rattle.definitions.specs.OuterUnion.{cellIn, widened, widenedRows}
 use Rattle.definitions.specs.Questions.{imageNumber}
-use Rattle.definitions.specs.Statements.{Stands}
-use Rattle.definitions.proofs.Lists.{stands-get, map-stands}
+use Rattle.definitions.specs.Statements.{Member}
+use Rattle.definitions.proofs.Lists.{member-get, map-member}
 use Rattle.definitions.proofs.Counts.{flatten-length}
 use Rattle.definitions.proofs.Questions.{passed-is}
 use Rattle.definitions.proofs.Images.{passed-ids, passed-rows, widened-count}
@@ -30,7 +30,7 @@ widened-length union ids row = length-map union (cellIn ids row)
 pub widened-wide : (union image : List ℕ) → Wide (length union) (widenedRows union image)
 unfolding widenedRows
 widened-wide union image r h =
-    let m = map-stands (widened union (imageIds image)) r (imageRows image) h in
+    let m = map-member (widened union (imageIds image)) r (imageRows image) h in
     ap length (m .2) ∙ widened-length union (imageIds image) (m .0)
 
 pub widened-words : (union image : List ℕ) → length (flatten (widenedRows union image)) ≡ rowCount image * length union
@@ -85,19 +85,19 @@ module _ {image union cells₀ cells : List ℕ} {at k i from to : ℕ} (v : Wid
   row-even =
       let p = passed-is maxRows image .0 (v .accepted) in
       let count : length (imageRows image) ≡ rowCount image = rows-length (columnCount image) (rowCount image) (cellWords image) in
-      ap length row-is ∙ passed-rows maxRows image p (getD (imageRows image) i []) (stands-get [] (imageRows image) i (omega arith))
+      ap length row-is ∙ passed-rows maxRows image p (getD (imageRows image) i []) (member-get [] (imageRows image) i (omega arith))
       ∙ sym (passed-ids maxRows image p)
 
   module _ (places : List ℕ) (covers : Covers union image) (ep : places ≡ placesIn union (imageIds image)) where
     -- each cell of the row has a place, within the cells
-    pub cells-within : (length (take (from + k - from) (drop from image)) ≤ length places) × ((p : ℕ) → Stands p places → to + p < length cells)
+    pub cells-within : (length (take (from + k - from) (drop from image)) ≤ length places) × ((p : ℕ) → Member p places → to + p < length cells)
     cells-within =
         let count : length places ≡ length (imageIds image) = ap length ep ∙ length-map (imageIds image) _ in
         let e = row-even in
         let f = target-within in
         let z = v .written .size in (
           omega arith,
-          λ p h. let w = places-within union (imageIds image) (covers .rising) (covers .has) p (subst (Stands p) ep h) in omega arith,
+          λ p h. let w = places-within union (imageIds image) (covers .strict) (covers .has) p (subst (Member p) ep h) in omega arith,
         )
 
     -- what is not yet written is empty
@@ -132,7 +132,7 @@ module _ {image union cells₀ cells : List ℕ} {at k i from to : ℕ} (v : Wid
         ∙ widened-row union image i ∙ ap (widened union ids) (sym row-is) in
         let wide : new ≡ paste cells to next w =
         e ∙ ap (λ (l : List ℕ). scattered cells to l row) ep
-        ∙ scatter-widened union ids row cells to (covers .rising) (passed-is maxRows image .0 (v .accepted) .distinct-ids) (covers .has)
+        ∙ scatter-widened union ids row cells to (covers .strict) (passed-is maxRows image .0 (v .accepted) .distinct-ids) (covers .has)
         row-even (omega arith) (next-empty empty) in
         let p = pasted-more cells₀ at (flatten (widenedRows union image)) (i * w) cells new next w to
         (omega arith) (omega arith) (v .written) (v .target) (widened-length union ids row) here wide in

@@ -6,19 +6,15 @@ use Prim.Native.Nat.{ℕ, _+_}
 use lib.Dec.{eqb, ltb}
 use lib.ListN.{length, set}
 use Rattle.definitions.specs.Limits.{maxColumns}
-use Rattle.definitions.specs.Lists.{any, keep, distinct}
+use Rattle.definitions.specs.Lists.{any, filter, distinct}
 use Rattle.definitions.specs.Image.{imageIds}
 use Rattle.definitions.specs.Ascending.{ascending}
 use Rattle.definitions.specs.OuterUnion.{compareWord, unionIds}
-use Rattle.definitions.specs.Statements.{Stands, Rising}
+use Rattle.definitions.specs.Statements.{Member, StrictlyAscending}
 
 -- ids, and after them those of a second list that are none of them
 abbrev pub withNew : List ℕ → List ℕ → List ℕ
-withNew ids more = ids ++ keep (λ id. not (any (eqb id) ids)) more
-
--- two images have at most so many ids
-abbrev pub maxIds : ℕ
-maxIds = maxColumns + maxColumns
+withNew ids more = ids ++ filter (λ id. not (any (eqb id) ids)) more
 
 -- ids in ascending order
 abbrev pub inOrder : List ℕ → List ℕ
@@ -31,7 +27,7 @@ pub record BothIds (a b all : List ℕ) : Type 0 where
 
 -- how many words of a list are smaller
 abbrev pub smallerThan : ℕ → List ℕ → ℕ
-smallerThan x words = length (keep (λ y. ltb y x) words)
+smallerThan x words = length (filter (λ y. ltb y x) words)
 
 -- the place of each id in an ascending list
 abbrev pub placesIn : List ℕ → List ℕ → List ℕ
@@ -45,5 +41,5 @@ scattered cells at (p ∷ places) (v ∷ row) = scattered (set cells (at + p) v)
 
 -- a union's ids are strictly ascending and have every id of the image
 pub record Covers (union image : List ℕ) : Type 0 where
-  pub rising : Rising compareWord union
-  pub has : (id : ℕ) → Stands id (imageIds image) → Stands id union
+  pub strict : StrictlyAscending compareWord union
+  pub has : (id : ℕ) → Member id (imageIds image) → Member id union

@@ -27,9 +27,9 @@ pub struct Table {
 
 impl Table {
     // The largest counts.
-    pub const MAX_ROWS: usize = 64;
+    pub const MAX_ROWS: usize = definitions::MAX_UNION_ROWS;
 
-    pub const MAX_COLUMNS: usize = 16;
+    pub const MAX_COLUMNS: usize = definitions::MAX_COLUMNS;
 
     pub const MAX_CELLS: usize = Self::MAX_ROWS * Self::MAX_COLUMNS;
 

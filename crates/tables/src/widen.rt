@@ -6,14 +6,14 @@ ghost use Prim.Native.Nat.{ℕ, _+_, _*_, _≤_, _<_};
 ghost use lib.Dec.{eqb};
 ghost use lib.ListN.{length, getD};
 ghost use lib.Seq.{paste};
-ghost use Rattle.definitions.specs.Limits.{maxColumns, maxRows};
+ghost use Rattle.definitions.specs.Limits.{maxColumns, maxRows, maxIds};
 ghost use Rattle.definitions.specs.Lists.{distinct};
 ghost use Rattle.definitions.specs.Word.{idOf};
 ghost use Rattle.definitions.specs.Image.{imageIds, rowCount};
 ghost use Rattle.definitions.specs.OuterUnion.{widenedRows};
-ghost use Rattle.definitions.specs.Statements.{Stands};
+ghost use Rattle.definitions.specs.Statements.{Member};
 ghost use Rattle.definitions.specs.Questions.{imageNumber};
-ghost use Rattle.tables.specs.Places.{maxIds, placesIn, scattered, inOrder, Covers};
+ghost use Rattle.tables.specs.Places.{placesIn, scattered, inOrder, Covers};
 use crate::Table;
 use crate::columns::smaller;
 
@@ -33,7 +33,7 @@ fn column_places(columns: &[u32], union: &[u32], places: &mut [usize])
 // Writes each cell of a row at its place from at.
 fn widen_row(row: &[u32], places: &[usize], cells: &mut [u32], at: usize)
     requires { ⌜ (length (now row) ≤ length (now places))
-        × ((p : ℕ) → Stands p (now places) → at + p < length (now cells)) ⌝ }
+        × ((p : ℕ) → Member p (now places) → at + p < length (now cells)) ⌝ }
     ensures { λ r. ⌜ now (cells .exit) ≡ scattered (now (cells .entry)) at (now (places .entry)) (now (row .entry)) ⌝ }
 {
     let mut j = 0;

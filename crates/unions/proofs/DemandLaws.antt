@@ -10,20 +10,20 @@ use lib.Seq.{take-append-le, drop-append-le}
 use Rattle.definitions.specs.Limits.{markWords, setWidth, maxUnionRows, maxSets}
 use Rattle.definitions.specs.Image.{imageRows}
 use Rattle.definitions.specs.OuterUnion.{compareRow, unionIds, unionRows}
-use Rattle.definitions.specs.ComplementUnion.{marked, compareSet, joined, complementAt, unionSets, fusedRows}
-use Rattle.definitions.specs.SetList.{fusedPlace, setRecord, setList}
+use Rattle.definitions.specs.ComplementUnion.{contains, compareSet, joined, complementAt, unionSets, fusedRows}
+use Rattle.definitions.specs.SetList.{fusedPosition, setRecord, setList}
 use Rattle.definitions.specs.Answer.{Outcome, done, afterwards}
 use Rattle.definitions.specs.Calls.{fusedImage, complementOutcome}
-use Rattle.definitions.specs.Statements.{Stands, Rising}
-use Rattle.definitions.proofs.Lists.{stands-get}
+use Rattle.definitions.specs.Statements.{Member, StrictlyAscending}
+use Rattle.definitions.proofs.Lists.{member-get}
 use Rattle.definitions.proofs.Sets.{listed-is}
 use Rattle.definitions.proofs.Counts.{set-list-length, fused-count}
 use Rattle.definitions.proofs.Unions.{rows-even, fused-even}
-use Rattle.definitions.proofs.SetWords.{set-list-record, mark-bit, row-word, fused-place-within}
+use Rattle.definitions.proofs.SetWords.{set-list-record, mark-bit, row-word, fused-position-within}
 use Rattle.definitions.proofs.Outcomes.{ComplementDone, complement-done}
 use Rattle.definitions.proofs.Images.{header-rows, image-rows-front, accepted-rows}
 use Rattle.definitions.proofs.Demand3.{listed-exactly, listed-once, listed-with-row, fused-exactly, fused-once, every-row, every-minimum-row}
-use Rattle.unions.specs.Demand3.{below, setCount, recordAt, markAt, placeIn, marksIn, setsIn, Demand3, Fused}
+use Rattle.unions.specs.Demand3.{below, setCount, recordAt, markAt, positionIn, marksIn, setsIn, Demand3, Fused}
 
 -- ---- reading lists
 
@@ -33,11 +33,11 @@ below-is d [] f h = refl
 below-is {A} d (x ∷ l) f h =
     ap₂ (λ (y : A) (r : List A). y ∷ r) (h 0 (omega arith)) (below-is d l (λ k. f (suc k)) (λ k p. h (suc k) (omega arith)))
 
-marked-get : (s : List Bool) (k : ℕ) → marked s k ≡ getD s k false
-unfolding marked
-marked-get [] k = refl
-marked-get (m ∷ s) zero = refl
-marked-get (m ∷ s) (suc k) = marked-get s k
+contains-get : (s : List Bool) (k : ℕ) → contains s k ≡ getD s k false
+unfolding contains
+contains-get [] k = refl
+contains-get (m ∷ s) zero = refl
+contains-get (m ∷ s) (suc k) = contains-get s k
 
 one-marks : (m : Bool) → eqb (cond m 1 0) 1 ≡ m
 one-marks true = refl
@@ -55,9 +55,9 @@ module _ (t : List (List ℕ)) (rest : List ℕ) where
       let j : p % 30 < 30 = omega arith in
       let e : 30 * (p / 30) + p % 30 ≡ p = omega arith in
       ap (λ (x : ℕ). eqb x 1) (mark-bit t s (p / 30) (p % 30) i j)
-      ∙ one-marks (marked s (30 * (p / 30) + p % 30))
-      ∙ ap (marked s) e
-      ∙ marked-get s p)
+      ∙ one-marks (contains s (30 * (p / 30) + p % 30))
+      ∙ ap (contains s) e
+      ∙ contains-get s p)
 
   module _ (few : length (unionSets t) ≤ maxSets) where
     count-read : setCount (setList t ++ rest) ≡ length (unionSets t)
@@ -75,7 +75,7 @@ module _ (t : List (List ℕ)) (rest : List ℕ) where
 
     set-size : (k : ℕ) → k < length (unionSets t) → length (getD (unionSets t) k []) ≡ length t
     unfolding unionSets
-    set-size k h = listed-is (complementAt t) (length t) (getD (unionSets t) k []) .0 (stands-get [] (unionSets t) k h) .complementing .size
+    set-size k h = listed-is (complementAt t) (length t) (getD (unionSets t) k []) .0 (member-get [] (unionSets t) k h) .complementing .size
 
     sets-read : length t ≤ maxUnionRows → setsIn (length t) (setList t ++ rest) ≡ unionSets t
     unfolding setsIn
@@ -87,12 +87,12 @@ module _ (t : List (List ℕ)) (rest : List ℕ) where
         let g : length s ≤ maxUnionRows = omega arith in
         ap₂ marksIn (sym e) (record-read k h) ∙ marks-read s g)
 
-    place-read : (k : ℕ) → k < length (unionSets t) → placeIn (recordAt (setList t ++ rest) k) ≡ fusedPlace t (getD (unionSets t) k [])
+    place-read : (k : ℕ) → k < length (unionSets t) → positionIn (recordAt (setList t ++ rest) k) ≡ fusedPosition t (getD (unionSets t) k [])
     place-read k h =
         let s = getD (unionSets t) k [] in
-        let p = fused-place-within t s (stands-get [] (unionSets t) k h) in
+        let p = fused-position-within t s (member-get [] (unionSets t) k h) in
         let q = fused-count t in
-        ap (λ (l : List ℕ). placeIn l) (record-read k h) ∙ ap (λ (w : ℕ). w % 2 ^ 30) (row-word t s) ∙ omega arith
+        ap (λ (l : List ℕ). positionIn l) (record-read k h) ∙ ap (λ (w : ℕ). w % 2 ^ 30) (row-word t s) ∙ omega arith
 
 -- ---- a fused table at the front of a buffer
 
@@ -110,30 +110,30 @@ table-read a b rest room setRoom values d =
 module _ (a b table sets : List ℕ) (rows : imageRows table ≡ fusedRows (unionRows a b))
     (listed : setsIn (length (unionRows a b)) sets ≡ unionSets (unionRows a b)) (count : setCount sets ≡ length (unionSets (unionRows a b)))
     (placed : (k : ℕ) → k < length (unionSets (unionRows a b))
-    → placeIn (recordAt sets k) ≡ fusedPlace (unionRows a b) (getD (unionSets (unionRows a b)) k [])) where
+    → positionIn (recordAt sets k) ≡ fusedPosition (unionRows a b) (getD (unionSets (unionRows a b)) k [])) where
   abbrev T : List (List ℕ)
   T = unionRows a b
 
-  to-listed : (s : List Bool) → Stands s (unionSets T) → Stands s (setsIn (length T) sets)
-  to-listed s = subst (λ (l : List (List Bool)). Stands s l) (sym listed)
+  to-listed : (s : List Bool) → Member s (unionSets T) → Member s (setsIn (length T) sets)
+  to-listed s = subst (λ (l : List (List Bool)). Member s l) (sym listed)
 
-  to-sets : (s : List Bool) → Stands s (setsIn (length T) sets) → Stands s (unionSets T)
-  to-sets s = subst (λ (l : List (List Bool)). Stands s l) listed
+  to-sets : (s : List Bool) → Member s (setsIn (length T) sets) → Member s (unionSets T)
+  to-sets s = subst (λ (l : List (List Bool)). Member s l) listed
 
-  to-table : (r : List ℕ) → Stands r (fusedRows T) → Stands r (imageRows table)
-  to-table r = subst (λ (l : List (List ℕ)). Stands r l) (sym rows)
+  to-table : (r : List ℕ) → Member r (fusedRows T) → Member r (imageRows table)
+  to-table r = subst (λ (l : List (List ℕ)). Member r l) (sym rows)
 
-  to-rows : (r : List ℕ) → Stands r (imageRows table) → Stands r (fusedRows T)
-  to-rows r = subst (λ (l : List (List ℕ)). Stands r l) rows
+  to-rows : (r : List ℕ) → Member r (imageRows table) → Member r (fusedRows T)
+  to-rows r = subst (λ (l : List (List ℕ)). Member r l) rows
 
   words-demand : Demand3 T table sets
   words-demand = record {
     exactly = λ s. let i = listed-exactly a b s in (λ h. i .0 (to-sets s h), λ m. to-listed s (i .1 m));
-    once-in-order = subst (λ (l : List (List Bool)). Rising compareSet l) (sym listed) (listed-once a b);
+    once-in-order = subst (λ (l : List (List Bool)). StrictlyAscending compareSet l) (sym listed) (listed-once a b);
     with-its-row = λ k h.
         let g : k < length (unionSets T) = subst (λ (n : ℕ). k < n) count h in
-        let i = listed-with-row a b (getD (unionSets T) k []) (stands-get [] (unionSets T) k g) in (
-          subst (λ (l : List (List ℕ)). placeIn (recordAt sets k) < length l) (sym rows) (subst (λ (p : ℕ). p < length (fusedRows T)) (sym (placed k g)) (i .1)),
+        let i = listed-with-row a b (getD (unionSets T) k []) (member-get [] (unionSets T) k g) in (
+          subst (λ (l : List (List ℕ)). positionIn (recordAt sets k) < length l) (sym rows) (subst (λ (p : ℕ). p < length (fusedRows T)) (sym (placed k g)) (i .1)),
           ap₂ (λ (l : List (List ℕ)) (p : ℕ). getD l p []) rows (placed k g) ∙ i .2 ∙ ap (λ (l : List (List Bool)). joined T (getD l k [])) (sym listed),
         );
     joined-rows = λ r.
@@ -141,7 +141,7 @@ module _ (a b table sets : List ℕ) (rows : imageRows table ≡ fusedRows (unio
           λ h. let j = i .0 (to-rows r h) in (j .0, to-listed (j .0) (j .1), j .2),
           λ j. to-table r (i .1 (j .0, to-sets (j .0) (j .1), j .2)),
         );
-    rows-once = subst (λ (l : List (List ℕ)). Rising compareRow l) (sym rows) (fused-once a b);
+    rows-once = subst (λ (l : List (List ℕ)). StrictlyAscending compareRow l) (sym rows) (fused-once a b);
     every-row = λ t h. let i = every-row a b t h in (i .0, to-table (i .0) (i .1), i .2);
     every-minimum-row = λ t h. let i = every-minimum-row a b t h in (i .0, to-table (i .0) (i .1), i .2);
   }

@@ -11,8 +11,8 @@ use lib.Seq.{paste, paste-zero, paste-suc, take-all, take-paste, drop-paste, dro
 use Rattle.definitions.specs.Word.{headerWord, columnWord, idOf}
 use Rattle.definitions.specs.Image.{imageOf, imageIds, columnWords}
 use Rattle.definitions.specs.OuterUnion.{unionIds}
-use Rattle.definitions.specs.Statements.{Stands}
-use Rattle.definitions.proofs.Lists.{map-stands, stands-get}
+use Rattle.definitions.specs.Statements.{Member}
+use Rattle.definitions.proofs.Lists.{map-member, member-get}
 use Rattle.definitions.proofs.Unions.{ids-are}
 use Rattle.lists.proofs.Pastes.{paste-more}
 
@@ -41,12 +41,12 @@ image-written d x y ids rows n m ei er fits ex ey =
     ∙ ap (λ (k : ℕ). let l = headerWord (length rows) k ∷ (map columnWord ids ++ flatten rows) in l ++ drop (length l) d) (sym ei)
 
 -- column ids have 16 bits
-pub small-ids : (a b : List ℕ) (id : ℕ) → Stands id (unionIds a b) → id < 2 ^ 16
+pub small-ids : (a b : List ℕ) (id : ℕ) → Member id (unionIds a b) → id < 2 ^ 16
 small-ids a b id h = ⊎-elim (small a) (small b) (ids-are a b id .0 h)
   where
-    small : (image : List ℕ) → Stands id (imageIds image) → id < 2 ^ 16
+    small : (image : List ℕ) → Member id (imageIds image) → id < 2 ^ 16
     small image g =
-        let m = map-stands idOf id (columnWords image) g in
+        let m = map-member idOf id (columnWords image) g in
         let l : m .0 % 2 ^ 16 < 2 ^ 16 = mod-lt (m .0) (lit< tt) in
         omega (arith, m .2)
 
@@ -54,7 +54,7 @@ pub small-at : (a b ids : List ℕ) (n : ℕ) → take n ids ≡ unionIds a b �
 small-at a b ids n e h k lt =
     let l : length (unionIds a b) ≡ n = ap length (sym e) ∙ length-take-le n ids h in
     let g : getD (unionIds a b) k 0 ≡ getD ids k 0 = ap (λ (x : List ℕ). getD x k 0) (sym e) ∙ getD-take n ids k 0 lt in
-    let s = small-ids a b (getD (unionIds a b) k 0) (stands-get 0 (unionIds a b) k (omega arith)) in
+    let s = small-ids a b (getD (unionIds a b) k 0) (member-get 0 (unionIds a b) k (omega arith)) in
     omega arith
 
 take-map : {A B : Type 0} (f : A → B) (n : ℕ) (l : List A) → take n (map f l) ≡ map f (take n l)

@@ -13,7 +13,7 @@ use Rattle.definitions.specs.OuterUnion.{compareRow, unionRows}
 use Rattle.definitions.specs.MinimumUnion.{subsumes, minimumRows}
 use Rattle.definitions.specs.ComplementUnion.{compareSet, joined}
 use Rattle.definitions.specs.Answer.{Outcome, done}
-use Rattle.definitions.specs.Statements.{Stands, Rising}
+use Rattle.definitions.specs.Statements.{Member, StrictlyAscending}
 use Rattle.definitions.proofs.MaximalRows.{MaximalRows}
 
 -- ---- a set list, read
@@ -36,8 +36,8 @@ abbrev pub markAt : List ℕ → ℕ → Bool
 markAt words p = eqb (getD words (p / 30) 0 / 2 ^ (p % 30) % 2) 1
 
 -- "and one of kind 1 with the joined row's position in the fused table"
-abbrev pub placeIn : List ℕ → ℕ
-placeIn words = getD words markWords 0 % 2 ^ 30
+abbrev pub positionIn : List ℕ → ℕ
+positionIn words = getD words markWords 0 % 2 ^ 30
 
 -- a record's marks of n positions
 unfoldable pub marksIn : ℕ → List ℕ → List Bool
@@ -52,30 +52,30 @@ setsIn n sets = below (setCount sets) (λ k. marksIn n (recordAt sets k))
 module _ (T : List (List ℕ)) (table sets : List ℕ) where
   -- the sets of rows of T that the set buffer lists
   abbrev pub Listed : List Bool → Type 0
-  Listed s = Stands s (setsIn (length T) sets)
+  Listed s = Member s (setsIn (length T) sets)
 
   -- t is "equal to or subsumed by a fused row"
   abbrev pub Kept : List ℕ → Type 0
-  Kept t = (f : List ℕ) × Stands f (imageRows table) × ((f ≡ t) ⊎ (subsumes f t ≡ true))
+  Kept t = (f : List ℕ) × Member f (imageRows table) × ((f ≡ t) ⊎ (subsumes f t ≡ true))
 
   pub record Demand3 : Type 0 where
     -- "lists a set of rows of T exactly when the set isn't empty, every two different rows in it complement each other, and no row of T
     -- outside it complements all its rows"
     pub exactly : (s : List Bool) → Listed s ↔ MaximalRows T s
     -- "Each such set stands in the set list once, in document 01's set order,"
-    pub once-in-order : Rising compareSet (setsIn (length T) sets)
+    pub once-in-order : StrictlyAscending compareSet (setsIn (length T) sets)
     -- "with the position of its joined row in the fused table."
     pub with-its-row : (k : ℕ) → k < setCount sets
-        → (placeIn (recordAt sets k) < length (imageRows table))
-        × (getD (imageRows table) (placeIn (recordAt sets k)) [] ≡ joined T (getD (setsIn (length T) sets) k []))
+        → (positionIn (recordAt sets k) < length (imageRows table))
+        × (getD (imageRows table) (positionIn (recordAt sets k)) [] ≡ joined T (getD (setsIn (length T) sets) k []))
     -- "That table holds these joined rows and no others,"
-    pub joined-rows : (r : List ℕ) → Stands r (imageRows table) ↔ ((s : List Bool) × Listed s × (r ≡ joined T s))
+    pub joined-rows : (r : List ℕ) → Member r (imageRows table) ↔ ((s : List Bool) × Listed s × (r ≡ joined T s))
     -- "each once, ascending."
-    pub rows-once : Rising compareRow (imageRows table)
+    pub rows-once : StrictlyAscending compareRow (imageRows table)
     -- "Every row of T,"
-    pub every-row : (t : List ℕ) → Stands t T → Kept t
+    pub every-row : (t : List ℕ) → Member t T → Kept t
     -- "and so every row of the minimum union, is equal to or subsumed by a fused row."
-    pub every-minimum-row : (t : List ℕ) → Stands t (minimumRows T) → Kept t
+    pub every-minimum-row : (t : List ℕ) → Member t (minimumRows T) → Kept t
 
 -- "Whatever the two tables hold, a complement union of them that isn't refused": T is "the distinct rows of the outer union"
 unfoldable pub Fused : Outcome → List ℕ → List ℕ → List ℕ → List ℕ → Type 0

@@ -8,7 +8,7 @@ use Rattle.definitions.specs.Limits.{maxColumns, maxUnionRows, maxSets}
 use Rattle.definitions.specs.Image.{imageOf, rowsIn}
 use Rattle.definitions.specs.MinimumUnion.{filled}
 use Rattle.definitions.specs.ComplementUnion.{unionSets, fusedRows}
-use Rattle.definitions.specs.SetList.{bits, fusedPlace, setList}
+use Rattle.definitions.specs.SetList.{bits, fusedPosition, setList}
 use Rattle.definitions.specs.Answer.{Outcome, done, unless, no, afterwards}
 use Rattle.definitions.specs.Calls.{tableRoom}
 use Rattle.rows.specs.Numbers.{rowsAt, Fit}
@@ -41,7 +41,7 @@ pub record ListedTable (ids cells : List ℕ) (n : ℕ) (columns list : List ℕ
 pub record FusedOf (rows : List (List ℕ)) (width : ℕ) (joined order places : List ℕ) : Type 0 where
   pub fit : Fit width (length joined) order
   pub fused : rowsAt width joined order ≡ fusedRows rows
-  pub placed : places ≡ map (fusedPlace rows) (unionSets rows)
+  pub placed : places ≡ map (fusedPosition rows) (unionSets rows)
 
 -- ---- the questions 10 and 11
 

@@ -1,7 +1,7 @@
 // The questions 1 to 8, put to a pair of images.
 ghost use Prim.Native.Nat.{_≤_};
 ghost use lib.ListN.{length};
-ghost use Rattle.tables.specs.Places.{maxIds};
+ghost use Rattle.definitions.specs.Limits.{maxIds};
 ghost use Rattle.unions.specs.Pair.{Checked};
 use tables::Table;
 

@@ -5,7 +5,7 @@ use lib.ListN.{length}
 use borrow.Author.Needs.{needs}
 use Rattle.bitsets.specs.Bits.{Sub}
 use Rattle.bitsets.proofs.Bits.{at-lowest, rest-less, rest-sub}
-use Rattle.cliques.specs.Graph.{near}
+use Rattle.cliques.specs.Graph.{adjacent}
 use Rattle.cliques.specs.Search.{rowOf}
 use Rattle.cliques.specs.Parts.{Common}
 use Rattle.cliques.proofs.Growing.{row-below, common-none, common-more}
@@ -13,7 +13,7 @@ use Rattle.cliques.proofs.parts.common_rows.Statement.{statement}
 use Rattle.cliques.proofs.parts.common_rows.Tie as tie
 
 abbrev Inv-loop : tie.InvT-loop
-Inv-loop neighbours part common₀ rest₀ common rest = Sub rest part × Common (near neighbours) part common
+Inv-loop neighbours part common₀ rest₀ common rest = Sub rest part × Common (adjacent neighbours) part common
 
 abbrev μ-loop : tie.MeasureT-loop
 μ-loop neighbours part common₀ rest₀ common rest = rest

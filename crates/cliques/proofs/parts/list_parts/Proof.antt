@@ -7,7 +7,7 @@ use lib.Seq.{length-take-le}
 use borrow.Author.Needs.{needs}
 use Rattle.definitions.specs.Limits.{maxSets, maxUnionRows}
 use Rattle.bitsets.specs.Bits.{Sub}
-use Rattle.cliques.specs.Graph.{near}
+use Rattle.cliques.specs.Graph.{adjacent}
 use Rattle.cliques.specs.Search.{rowOf}
 use Rattle.cliques.proofs.PartTurns.{part-rows, Continues, continue-start, continue-full, continue-part, continue-end, part-less, left-sub}
 use Rattle.cliques.proofs.parts.list_parts.Statement.{statement}
@@ -61,7 +61,7 @@ loop-less : tie.Need-loop-less Inv-loop μ-loop
 loop-less c =
     let p = c .before .before .before in
     let b = p .before .before .before .before in
-    part-less (near (b .before .args .neighbours .now)) (b .loop .rest) (p .part-of .result) (c .minus .result) (p .part-of .ensures) (c .minus .ensures)
+    part-less (adjacent (b .before .args .neighbours .now)) (b .loop .rest) (p .part-of .result) (c .minus .result) (p .part-of .ensures) (c .minus .ensures)
 
 loop-again : tie.Need-loop-again Inv-loop μ-loop
 loop-again c =

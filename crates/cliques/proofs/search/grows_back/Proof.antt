@@ -7,14 +7,14 @@ use borrow.Author.Tests.{not-true, not-false}
 use Rattle.bitsets.specs.Bits.{Inside}
 use Rattle.bitsets.proofs.Bits.{lowest-inside, rest-less, both-less}
 use Rattle.definitions.specs.Limits.{maxUnionRows}
-use Rattle.cliques.specs.Graph.{near}
+use Rattle.cliques.specs.Graph.{adjacent}
 use Rattle.cliques.specs.Search.{rowOf}
 use Rattle.cliques.proofs.Taking.{Walk, walk-start, walk-end, walk-met, walk-turn, left}
 use Rattle.cliques.proofs.search.grows_back.Statement.{statement}
 use Rattle.cliques.proofs.search.grows_back.Tie as tie
 
 abbrev Inv-loop : tie.InvT-loop
-Inv-loop neighbours free set rest₀ rest = Inside rest (length neighbours) × Inside rest maxUnionRows × Walk (near neighbours) free set rest
+Inv-loop neighbours free set rest₀ rest = Inside rest (length neighbours) × Inside rest maxUnionRows × Walk (adjacent neighbours) free set rest
 
 abbrev μ-loop : tie.MeasureT-loop
 μ-loop neighbours free set rest₀ rest = rest

@@ -5,11 +5,11 @@ use Rattle.cliques.proofs.Taking.{kept-inside, free-inside, free-bits, 
 use Rattle.cliques.proofs.search.may_take.Statement.{statement}
 use Rattle.cliques.proofs.search.may_take.Tie as tie
 
-mul-near : tie.Need-mul-near
-mul-near c = search needs
+mul-adjacent : tie.Need-mul-adjacent
+mul-adjacent c = search needs
 
-shared-slice-read-near : tie.Need-shared-slice-read-near
-shared-slice-read-near c = search needs
+shared-slice-read-adjacent : tie.Need-shared-slice-read-adjacent
+shared-slice-read-adjacent c = search needs
 
 meet-requires : tie.Need-meet-requires
 meet-requires c κs = search needs
@@ -52,8 +52,8 @@ pub may-take-spec : {M : Type 1} → statement M
 may-take-spec =
     tie.close
     (tie.spec
-    mul-near
-    shared-slice-read-near
+    mul-adjacent
+    shared-slice-read-adjacent
     meet-requires
     free-rows-requires
     meet-requires-2

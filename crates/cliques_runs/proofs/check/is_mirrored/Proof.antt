@@ -5,13 +5,13 @@ use native.Mathlib.Omega.{arith}
 use borrow.Author.Count.{below-none, below-more}
 use borrow.Author.Needs.{needs}
 use Rattle.definitions.proofs.Bools.{clash}
-use Rattle.cliques.specs.Graph.{near}
+use Rattle.cliques.specs.Graph.{adjacent}
 use Rattle.bitsets.proofs.Bits.{beq-same}
 use Rattle.cliques_runs.proofs.check.is_mirrored.Statement.{statement}
 use Rattle.cliques_runs.proofs.check.is_mirrored.Tie as tie
 
 abbrev Inv-loop : tie.InvT-loop
-Inv-loop neighbours n j k₀ k = (k ≤ n) × ((i : ℕ) → i < k → near neighbours j i ≡ near neighbours i j)
+Inv-loop neighbours n j k₀ k = (k ≤ n) × ((i : ℕ) → i < k → adjacent neighbours j i ≡ adjacent neighbours i j)
 
 abbrev μ-loop : tie.MeasureT-loop
 μ-loop neighbours n j k₀ k = n - k

@@ -11,7 +11,7 @@ use Rattle.lists.proofs.Flat.{row-fits}
 use Rattle.lists.proofs.Pastes.{Pasted, paste-none}
 use Rattle.rows.specs.Numbers.{rowsAt}
 use Rattle.fusing.specs.Records.{placesIn}
-use Rattle.fusing.proofs.Places.{place-listed, place-stands, places-turn, places-stay, places-end}
+use Rattle.fusing.proofs.Places.{place-listed, place-member, places-turn, places-stay, places-end}
 use Rattle.fusing.proofs.list.places_of.Statement.{statement}
 use Rattle.fusing.proofs.list.places_of.Tie as tie
 
@@ -92,7 +92,7 @@ place-of-requires c κs =
     let named = take (s .m) (s .order .now) in (
       search needs,
       place-listed (s .width) (s .count) (s .cells .now) named (q .pre .0) (q .pre .3) (l .k) (l .at) (search needs) (l .inv .1),
-      place-stands (s .width) (s .count) (s .cells .now) named (q .pre .0) (q .pre .3) (l .k) (l .at) (search needs) (l .inv .1),
+      place-member (s .width) (s .count) (s .cells .now) named (q .pre .0) (q .pre .3) (l .k) (l .at) (search needs) (l .inv .1),
     )
 
 cast-places : tie.Need-cast-places Inv-loop μ-loop

@@ -5,7 +5,7 @@ use mathlib.Core.List.{List, [], _∷_}
 use native.Mathlib.Omega.{arith}
 use lib.ListN.{length}
 use Rattle.definitions.specs.Limits.{markWords}
-use Rattle.definitions.specs.Reading.{placeIn}
+use Rattle.definitions.specs.Reading.{positionIn}
 use Rattle.definitions.specs.Text.{decimal}
 use Rattle.text.proofs.Writing.{as-written, fits-next, turns, ends-with}
 use Rattle.listing.proofs.Fields.{field-fits, field-turn, end-fits}
@@ -48,7 +48,7 @@ next-number-requires c κs =
     let begun = set-starts (s .args .out .now) (s .args .at) set fits (at-put-positions .put-positions .ensures) in
     let left = behind (s .args .out .now) (s .args .at) set fits in
     let marked = turns left begun (at-put-byte .put-byte .ensures) in
-    let place : List ℕ = decimal (placeIn markWords set) in
+    let place : List ℕ = decimal (positionIn markWords set) in
     omega (arith, field-fits place [] marked, ap (λ (n : ℕ). length (decimal n)) (c .low-bits .ensures))
 
 put-byte-requires-2 : tie.Need-put-byte-requires-2
@@ -63,7 +63,7 @@ put-byte-requires-2 c κs =
     let begun = set-starts (s .args .out .now) (s .args .at) set fits (at-put-positions .put-positions .ensures) in
     let left = behind (s .args .out .now) (s .args .at) set fits in
     let marked = turns left begun (at-put-byte .put-byte .ensures) in
-    let place : List ℕ = decimal (placeIn markWords set) in
+    let place : List ℕ = decimal (positionIn markWords set) in
     let same = ap (λ (n : ℕ). 32 ∷ decimal n) (at-low-bits .low-bits .ensures) in
     end-fits (field-turn place [] marked (as-written same (at-next-number .next-number .ensures)))
 
@@ -83,7 +83,7 @@ returns c =
     let begun = set-starts (s .args .out .now) (s .args .at) set fits (at-put-positions .put-positions .ensures) in
     let left = behind (s .args .out .now) (s .args .at) set fits in
     let marked = turns left begun (at-put-byte .put-byte .ensures) in
-    let place : List ℕ = decimal (placeIn markWords set) in
+    let place : List ℕ = decimal (positionIn markWords set) in
     let same = ap (λ (n : ℕ). 32 ∷ decimal n) (at-low-bits .low-bits .ensures) in
     ends-with (field-turn place [] marked (as-written same (at-next-number .next-number .ensures)))
     (at-put-byte2 .put-byte2 .ensures)

@@ -58,11 +58,11 @@ module _ (x : tie.In-rows Inv-loop μ-loop Inv-rows μ-rows) where
   lowest-of : Lowest (turn .rows .rest) next
   lowest-of = trailing-lowest 64 (turn .rows .rest) (x .rows-test .taken) (turn .rows .inv .0)
 
-  near : next < start .args .n
-  near = next-within (start .pre .0) (start .pre .1) (turn .rows .inv .3) lowest-of
+  adjacent : next < start .args .n
+  adjacent = next-within (start .pre .0) (start .pre .1) (turn .rows .inv .3) lowest-of
 
   other-there : next * start .args .width + start .args .width ≤ length (start .args .cells .now)
-  other-there = row-there start next near
+  other-there = row-there start next adjacent
 
 mul-own : tie.Need-mul-own Inv-loop μ-loop Inv-rows μ-rows
 mul-own c = let e = own-there (c .before .before .before .before) in search needs
@@ -121,7 +121,7 @@ loop-holds : tie.Need-loop-holds Inv-loop μ-loop Inv-rows μ-rows
 loop-holds c = (search needs, refl, turn c .rows .inv .1, turn c .rows .inv .2)
 
 add-looked : tie.Need-add-looked Inv-loop μ-loop Inv-rows μ-rows
-add-looked c = let e = near (c .before .before) in search needs
+add-looked c = let e = adjacent (c .before .before) in search needs
 
 add-covered : tie.Need-add-covered Inv-loop μ-loop Inv-rows μ-rows
 add-covered c = let e = other-there (c .before .before) in search needs
@@ -156,7 +156,7 @@ loop-again c =
     let x = l .before in
     let q = start x in (
       search needs,
-      column-covered (q .pre .0) (q .pre .1) (next x) (l .loop .c) (near x) (search needs) (l .loop .inv .1) (c .before .covered .ensures)
+      column-covered (q .pre .0) (q .pre .1) (next x) (l .loop .c) (adjacent x) (search needs) (l .loop .inv .1) (c .before .covered .ensures)
           (not-false _ (c .if2 .left)),
       l .loop .inv .2,
       l .loop .inv .3,
@@ -177,7 +177,7 @@ rows-again c =
     let q = start x in
     let r = turn x .rows in
     let d =
-    column-differs (q .pre .0) (q .pre .1) (next x) (l .loop .c) (near x) (search needs) (l .loop .inv .1) (c .before .covered .ensures)
+    column-differs (q .pre .0) (q .pre .1) (next x) (l .loop .c) (adjacent x) (search needs) (l .loop .inv .1) (c .before .covered .ensures)
     (not-true _ (c .if2 .taken)) in (
       omega (arith, and-le-r (r .rest) (r .rest - 1), r .inv .0),
       l .loop .inv .2,

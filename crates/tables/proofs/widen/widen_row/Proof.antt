@@ -3,7 +3,7 @@ use mathlib.Core.Path.{refl}
 use Prim.Native.Nat.{_-_, _≤_}
 use native.Mathlib.Omega.{arith}
 use lib.ListN.{length, getD}
-use Rattle.definitions.proofs.Lists.{stands-get}
+use Rattle.definitions.proofs.Lists.{member-get}
 use Rattle.tables.proofs.Scatter.{Scattering, scatter-none, scatter-turn, scatter-all}
 use borrow.Author.Needs.{needs}
 use Rattle.tables.proofs.widen.widen_row.Statement.{statement}
@@ -34,7 +34,7 @@ add-cells : tie.Need-add-cells Inv-loop μ-loop
 add-cells c =
     let s = c .before .before .before .before in
     let l = c .before .before .before .loop in
-    let w = s .pre .1 (getD (s .args .places .now) (l .j) 0) (stands-get 0 (s .args .places .now) (l .j) (omega arith)) in
+    let w = s .pre .1 (getD (s .args .places .now) (l .j) 0) (member-get 0 (s .args .places .now) (l .j) (omega arith)) in
     let z = l .inv .1 .size in
     search needs
 
@@ -42,7 +42,7 @@ mul-cells-3 : tie.Need-mul-cells-3 Inv-loop μ-loop
 mul-cells-3 c =
     let s = c .before .before .before .before in
     let l = c .before .before .before .loop in
-    let w = s .pre .1 (getD (s .args .places .now) (l .j) 0) (stands-get 0 (s .args .places .now) (l .j) (omega arith)) in
+    let w = s .pre .1 (getD (s .args .places .now) (l .j) 0) (member-get 0 (s .args .places .now) (l .j) (omega arith)) in
     let z = l .inv .1 .size in
     search needs
 
@@ -50,7 +50,7 @@ slice-write-cells : tie.Need-slice-write-cells Inv-loop μ-loop
 slice-write-cells c =
     let s = c .before .before .before .before in
     let l = c .before .before .before .loop in
-    let w = s .pre .1 (getD (s .args .places .now) (l .j) 0) (stands-get 0 (s .args .places .now) (l .j) (omega arith)) in
+    let w = s .pre .1 (getD (s .args .places .now) (l .j) 0) (member-get 0 (s .args .places .now) (l .j) (omega arith)) in
     let z = l .inv .1 .size in
     search needs
 
