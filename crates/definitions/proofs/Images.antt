@@ -15,7 +15,7 @@ use Rattle.definitions.specs.OuterUnion.{compareRow, unionIds, widened, 
 use Rattle.definitions.specs.Statements.{Member}
 use Rattle.definitions.proofs.Counts.{ascending-length}
 use Rattle.definitions.proofs.Questions.{Passed, passed-is}
-use Rattle.definitions.proofs.Outcomes.{Accepted}
+use Rattle.definitions.specs.Calls.{Accepted}
 
 -- ---- the image of a table
 

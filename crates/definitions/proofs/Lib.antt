@@ -21,6 +21,7 @@ pub mod MaximalRows
 pub mod SetWords
 pub mod Demand3
 pub mod Reading
+pub mod Promise
 pub mod Digits
 pub mod Cells
 pub mod Lines

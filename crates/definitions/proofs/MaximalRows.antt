@@ -11,23 +11,13 @@ use Rattle.definitions.specs.declared.Order.the-variants.{Before}
 use Rattle.definitions.specs.OuterUnion.{compareRow}
 use Rattle.definitions.specs.ComplementUnion.{complement, contains, adjacentToAll, complementAt, members}
 use Rattle.definitions.specs.Statements.{Member, StrictlyAscending}
+use Rattle.definitions.specs.Demand3.{MaximalRows}
 use Rattle.definitions.proofs.Bools.{bool-cases, clash}
 use Rattle.definitions.proofs.Ascending.{not-before-self, strict-get}
 use Rattle.definitions.proofs.Orders.{rows}
 use Rattle.definitions.proofs.Lists.{member-at, member-get}
 use Rattle.definitions.proofs.Sets.{Holds, Maximal, holds-within, adjacent-all, adjacent-some-not}
 use Rattle.definitions.proofs.Joined.{members-are}
-
--- the set of rows of t that s marks
-module _ (t : List (List ℕ)) (s : List Bool) where
-  abbrev pub In : List ℕ → Type 0
-  In r = Member r (members t s)
-
-  pub record MaximalRows : Type 0 where
-    pub size : length s ≡ length t
-    pub some : (r : List ℕ) × In r
-    pub pairwise : (q r : List ℕ) → In q → In r → (q ≡ r → ⊥) → complement q r ≡ true
-    pub outside : (r : List ℕ) → Member r t → (In r → ⊥) → ((q : List ℕ) → In q → complement r q ≡ true) → ⊥
 
 -- different positions of an ascending list have different rows
 apart-by : (t : List (List ℕ)) → StrictlyAscending compareRow t → (j k : ℕ) → j < k → k < length t → getD t j [] ≡ getD t k [] → ⊥

@@ -16,13 +16,7 @@ use Rattle.definitions.specs.ComplementUnion.{unionSets, fusedRows}
 use Rattle.definitions.specs.SetList.{setList}
 use Rattle.definitions.specs.Questions.{imageNumber}
 use Rattle.definitions.specs.Answer.{Outcome, done, unless, no}
-use Rattle.definitions.specs.Calls.{pairNumber, tableRoom, outerImage, minimumImage, fusedImage, outerOutcome, minimumOutcome, complementOutcome}
-
--- "A pair with eight yeses to 1–8 is accepted."
-pub record Accepted (a b : List ℕ) : Type 0 where
-  pub first : imageNumber maxRows a ≡ 0
-  pub second : imageNumber maxRows b ≡ 0
-  pub columns : length (unionIds a b) ≤ maxColumns
+use Rattle.definitions.specs.Calls.{Accepted, pairNumber, tableRoom, outerImage, minimumImage, fusedImage, outerOutcome, minimumOutcome, complementOutcome}
 
 unless-done : (number table : ℕ) (rest : Outcome) (values : List ℕ) → unless number table rest ≡ done values → (number ≡ 0) × (rest ≡ done values)
 unless-done zero table rest values e = (refl, e)

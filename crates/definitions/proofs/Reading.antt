@@ -1,6 +1,7 @@
--- Laws of a set list that is read: its records, their sets and places are those that it was made of. Assumes nothing.
+-- Laws of a set list that is read: its records, their sets and positions are those that it was made of. Assumes nothing.
 use mathlib.Core.Path.{_≡_, refl, sym, _∙_, ap, ap₂}
 use mathlib.Core.Bool.{Bool, true, false, cond}
+use mathlib.Core.Logic.{inl, inr}
 use mathlib.Core.List.{List, [], _∷_, _++_, map, flatten}
 use Prim.Native.Nat.{ℕ, zero, suc, _+_, _*_, _/_, _%_, _^_, _<_, _≤_}
 use native.Mathlib.Nat.{le-of-suc-le-suc, not-suc-le-zero}
@@ -15,7 +16,7 @@ use Rattle.definitions.specs.ComplementUnion.{contains, complementAt, un
 use Rattle.definitions.specs.SetList.{fusedPosition, setRecord, setList}
 use Rattle.definitions.specs.Reading.{below, setCount, recordsIn, wordMarks, markAt, marksIn, setIn, positionsOf, positionIn}
 use Rattle.definitions.specs.Statements.{Member}
-use Rattle.definitions.proofs.Lists.{map-member}
+use Rattle.definitions.proofs.Lists.{map-at, map-member, member-get}
 use Rattle.definitions.proofs.Sets.{contains-get, holds-within, listed-is}
 use Rattle.definitions.proofs.Counts.{record-length, fused-count}
 use Rattle.definitions.proofs.SetWords.{mark-bit, row-word, fused-position-within}
@@ -41,6 +42,20 @@ module _ {A : Type 0} where
   below-ext (suc n) f g h =
       ap₂ (λ (y : A) (r : List A). y ∷ r) (h 0 (omega arith))
       (below-ext n (λ k. f (suc k)) (λ k. g (suc k)) (λ k p. h (suc k) (omega arith)))
+
+  -- the first of them
+  below-take : (m n : ℕ) (f : ℕ → A) → m ≤ n → take m (below n f) ≡ below m f
+  unfolding below
+  below-take zero n f h = refl
+  below-take (suc m) zero f h = absurd (not-suc-le-zero h)
+  below-take (suc m) (suc n) f h =
+      ap (λ (l : List A). f 0 ∷ l) (below-take m n (λ k. f (suc k)) (le-of-suc-le-suc h))
+
+-- a set is told by its positions
+below-contains : (s : List Bool) → below (length s) (contains s) ≡ s
+unfolding below contains
+below-contains [] = refl
+below-contains (m ∷ s) = ap (λ (l : List Bool). m ∷ l) (below-contains s)
 
 -- ---- the marks of a record
 
@@ -88,9 +103,18 @@ module _ (t : List (List ℕ)) (s : List Bool) where
       ap (positionsOf 0) (below-ext (wordMarks * markWords) (markAt (setRecord t s)) (λ k. contains s k) mark-read)
       ∙ positions-below (wordMarks * markWords) 0 s (omega arith)
 
-  -- and names the place of its joined row
-  pub place-read : fusedPosition t s < maxSets → positionIn markWords (setRecord t s) ≡ fusedPosition t s
-  place-read h = ap (λ (w : ℕ). w % 2 ^ 30) (row-word t s) ∙ omega arith
+  -- the first positions of a record's set are the set
+  pub set-read : (n : ℕ) → length s ≡ n → n ≤ maxUnionRows → take n (setIn markWords (setRecord t s)) ≡ s
+  unfolding marksIn
+  set-read n e h =
+      below-take n (wordMarks * markWords) (markAt (setRecord t s)) (omega arith)
+      ∙ below-ext n (markAt (setRecord t s)) (contains s) (λ k g. mark-read k (omega arith))
+      ∙ ap (λ (k : ℕ). below k (contains s)) (sym e)
+      ∙ below-contains s
+
+  -- and names the position of its joined row
+  pub position-read : fusedPosition t s < maxSets → positionIn markWords (setRecord t s) ≡ fusedPosition t s
+  position-read h = ap (λ (w : ℕ). w % 2 ^ 30) (row-word t s) ∙ omega arith
 
 -- ---- a set list at the front of a buffer
 
@@ -113,5 +137,31 @@ module _ (t : List (List ℕ)) (rest : List ℕ) where
   unfolding unionSets
   listed-length s h = listed-is (complementAt t) (length t) s .0 h .complementing .size
 
-  pub listed-place : length (unionSets t) ≤ maxSets → (s : List Bool) → Member s (unionSets t) → fusedPosition t s < maxSets
-  listed-place few s h = omega (arith, fused-position-within t s h, fused-count t)
+  pub listed-position : length (unionSets t) ≤ maxSets → (s : List Bool) → Member s (unionSets t) → fusedPosition t s < maxSets
+  listed-position few s h = omega (arith, fused-position-within t s h, fused-count t)
+
+  -- all records, by the count in the header
+  pub all-read : length (unionSets t) ≤ maxSets → recordsIn markWords (setList t ++ rest) ≡ map (setRecord t) (unionSets t)
+  all-read few = ap (λ (n : ℕ). rowsIn setWidth n (drop 1 (setList t ++ rest))) (count-read few) ∙ records-read
+
+  -- the sets that a set list lists are those of T
+  pub sets-read : length (unionSets t) ≤ maxSets → length t ≤ maxUnionRows
+      → map (λ words. take (length t) (setIn markWords words)) (recordsIn markWords (setList t ++ rest)) ≡ unionSets t
+  sets-read few rows =
+      ap (map (λ words. take (length t) (setIn markWords words))) (all-read few)
+      ∙ each (unionSets t) (λ s h. set-read t s (length t) (listed-length s h) rows)
+    where
+      each : (sets : List (List Bool))
+          → ((s : List Bool) → Member s sets → take (length t) (setIn markWords (setRecord t s)) ≡ s)
+          → map (λ words. take (length t) (setIn markWords words)) (map (setRecord t) sets) ≡ sets
+      each [] h = refl
+      each (s ∷ sets) h = ap₂ (λ (x : List Bool) (l : List (List Bool)). x ∷ l) (h s (inl refl)) (each sets (λ r g. h r (inr g)))
+
+  -- and each with the position of its joined row
+  pub positions-at : length (unionSets t) ≤ maxSets → (k : ℕ) → k < length (unionSets t)
+      → positionIn markWords (getD (recordsIn markWords (setList t ++ rest)) k []) ≡ fusedPosition t (getD (unionSets t) k [])
+  positions-at few k h =
+      let s = getD (unionSets t) k [] in
+      ap (λ (l : List (List ℕ)). positionIn markWords (getD l k [])) (all-read few)
+      ∙ ap (positionIn markWords) (map-at (setRecord t) [] [] (unionSets t) k h)
+      ∙ position-read t s (listed-position few s (member-get [] (unionSets t) k h))

@@ -55,13 +55,13 @@ module _ (t : List (List ℕ)) where
     fused-position-within =
         findIndex-found (sameRow (joined t s)) (joined t s) (fusedRows t) (fused-are t (joined t s) .1 (s, h, refl)) (same-is (joined t s) (joined t s) .1 refl)
 
-    pub fused-place-at : getD (fusedRows t) (fusedPosition t s) [] ≡ joined t s
-    fused-place-at =
+    pub fused-position-at : getD (fusedRows t) (fusedPosition t s) [] ≡ joined t s
+    fused-position-at =
         sym (same-is (joined t s) (getD (fusedRows t) (fusedPosition t s) []) .0 (findIndex-at (sameRow (joined t s)) [] (fusedRows t) fused-position-within))
 
   -- and in no other
-  pub fused-place-of : (s : List Bool) (k : ℕ) → k < length (fusedRows t) → getD (fusedRows t) k [] ≡ joined t s → fusedPosition t s ≡ k
-  fused-place-of s k h e =
+  pub fused-position-of : (s : List Bool) (k : ℕ) → k < length (fusedRows t) → getD (fusedRows t) k [] ≡ joined t s → fusedPosition t s ≡ k
+  fused-position-of s k h e =
       ap (λ (r : List ℕ). findIndex (sameRow r) (fusedRows t)) (sym e) ∙ findIndex-strict rows sameRow same-is [] (fusedRows t) k (fused-rise t) h
 
 -- ---- marks

@@ -33,7 +33,7 @@ use Rattle.definitions.proofs.Counts.{flatten-length, fused-count, mini
 use Rattle.definitions.proofs.Unions.{rows-even, fused-even}
 use Rattle.definitions.proofs.Outcomes.{ComplementDone, complement-done}
 use Rattle.definitions.proofs.Images.{accepted-rows}
-use Rattle.definitions.proofs.Reading.{listed-length, listed-place}
+use Rattle.definitions.proofs.Reading.{listed-length, listed-position}
 use Rattle.definitions.proofs.TableWords.{small-ids}
 use Rattle.definitions.proofs.Lines.{at-most-map, flatten-bound, title-bound, row-bound, refused-bound}
 use Rattle.definitions.proofs.Lines.{set-bound, positions-count, positions-small}
@@ -105,7 +105,7 @@ module _ (a b : List ℕ) (room setRoom : ℕ) (values : List ℕ) (d : Compleme
       λ s h.
       let size = listed-length T [] s h in
       let small : (p : ℕ) → Member p (positionsOf 0 s) → p < 10 ^ 2 = λ p k. omega (arith, positions-small 0 s p k) in
-      let place = set-bound (positionsOf 0 s) (fusedPosition T s) small (omega (arith, listed-place T [] few s h)) in
+      let place = set-bound (positionsOf 0 s) (fusedPosition T s) small (omega (arith, listed-position T [] few s h)) in
       omega (arith, place, positions-count 0 s) in
       let line-of : List Bool → List ℕ = λ s. setLine (positionsOf 0 s) (fusedPosition T s) in
       let lines = flatten-bound setBytes (map line-of sets) (at-most-map setBytes line-of sets one) in

@@ -1,5 +1,6 @@
 -- Document 01, "The questions a call goes through": the answers of the three calls, and their results.
-use Prim.Native.Nat.{ℕ}
+use mathlib.Core.Path.{_≡_}
+use Prim.Native.Nat.{ℕ, _≤_}
 use mathlib.Core.List.{List, [], _∷_, flatten}
 use lib.Dec.{leb}
 use lib.ListN.{length}
@@ -18,6 +19,12 @@ pairNumber a b rest =
     unless (imageNumber maxRows a) 0
     (unless (imageNumber maxRows b) 1
     (unless (no (leb (length (unionIds a b)) maxColumns) 8) 2 rest))
+
+-- document 01's accepted pair: "A pair with eight yeses to 1–8 is accepted."
+pub record Accepted (a b : List ℕ) : Type 0 where
+  pub first : imageNumber maxRows a ≡ 0
+  pub second : imageNumber maxRows b ≡ 0
+  pub columns : length (unionIds a b) ≤ maxColumns
 
 -- "Has the table buffer as many words as the result image?" `room` counts the words of the buffer
 abbrev pub tableRoom : List ℕ → ℕ → Outcome → Outcome

@@ -12,7 +12,9 @@ pub mod Questions
 pub mod Answer
 pub mod Calls
 pub mod Reading
+pub mod Statements
+pub mod Demand3
+pub mod Promise
 pub mod Text
 pub mod Listing
 pub mod Program
-pub mod Statements

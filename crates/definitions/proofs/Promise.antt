@@ -1,0 +1,204 @@
+-- Over the promises of the calls: the words that complement union's equations name meet demand 3, and two calls with the
+-- same T, columns and room get the same. Assumes nothing.
+use mathlib.Core.Path.{_≡_, refl, sym, _∙_, ap, ap₂, subst}
+use mathlib.Core.Bool.{Bool}
+use mathlib.Core.List.{List, [], _∷_, _++_}
+use Prim.Native.Nat.{ℕ, _<_}
+use native.Mathlib.Omega.{arith}
+use lib.ListN.{length, getD, take, drop}
+use lib.Seq.{take-at, drop-at}
+use Rattle.definitions.specs.declared.ComplementAnswer.{ComplementAnswer}
+use Rattle.definitions.specs.declared.ComplementAnswer.the-variants as complement
+use Rattle.definitions.specs.Image.{imageOf, imageRows}
+use Rattle.definitions.specs.OuterUnion.{compareRow, unionIds, unionRows}
+use Rattle.definitions.specs.ComplementUnion.{compareSet, joined, unionSets, fusedRows}
+use Rattle.definitions.specs.SetList.{fusedPosition, setList}
+use Rattle.definitions.specs.Answer.{Outcome, done, refused, complementSays, afterwards}
+use Rattle.definitions.specs.Calls.{Accepted, fusedImage, complementOutcome}
+use Rattle.definitions.specs.Reading.{setCount}
+use Rattle.definitions.specs.Statements.{Member, StrictlyAscending}
+use Rattle.definitions.specs.Demand3.{listedSets, positionAt, Demand3, Fused, tableWords, setWords, SameResult}
+use Rattle.definitions.specs.Promise.{ComplementPromise}
+use Rattle.definitions.proofs.Lists.{member-get}
+use Rattle.definitions.proofs.Counts.{fused-count}
+use Rattle.definitions.proofs.Unions.{rows-even, fused-even}
+use Rattle.definitions.proofs.Outcomes.{accepted-on, ComplementDone, complement-done}
+use Rattle.definitions.proofs.Images.{image-rows-front, accepted-rows}
+use Rattle.definitions.proofs.Reading.{count-read, sets-read, positions-at}
+use Rattle.definitions.proofs.Demand3.{listed-exactly, listed-once, listed-with-row, fused-exactly, fused-once}
+use Rattle.definitions.proofs.Demand3.{every-row, every-minimum-row}
+
+-- ---- demand 3 from what is read
+
+module _ (a b table sets : List ℕ) (rows : imageRows table ≡ fusedRows (unionRows a b))
+    (listed : listedSets (unionRows a b) table sets ≡ unionSets (unionRows a b))
+    (count : setCount sets ≡ length (unionSets (unionRows a b)))
+    (positions : (k : ℕ) → k < length (unionSets (unionRows a b))
+    → positionAt (unionRows a b) table sets k ≡ fusedPosition (unionRows a b) (getD (unionSets (unionRows a b)) k [])) where
+  abbrev T : List (List ℕ)
+  T = unionRows a b
+
+  to-listed : (s : List Bool) → Member s (unionSets T) → Member s (listedSets T table sets)
+  to-listed s = subst (λ (l : List (List Bool)). Member s l) (sym listed)
+
+  to-sets : (s : List Bool) → Member s (listedSets T table sets) → Member s (unionSets T)
+  to-sets s = subst (λ (l : List (List Bool)). Member s l) listed
+
+  to-table : (r : List ℕ) → Member r (fusedRows T) → Member r (imageRows table)
+  to-table r = subst (λ (l : List (List ℕ)). Member r l) (sym rows)
+
+  to-rows : (r : List ℕ) → Member r (imageRows table) → Member r (fusedRows T)
+  to-rows r = subst (λ (l : List (List ℕ)). Member r l) rows
+
+  read-demand : Demand3 T table sets
+  read-demand = record {
+    exactly = λ s. let i = listed-exactly a b s in (λ h. i .0 (to-sets s h), λ m. to-listed s (i .1 m));
+    once-in-order = subst (λ (l : List (List Bool)). StrictlyAscending compareSet l) (sym listed) (listed-once a b);
+    with-its-row = λ k h.
+        let g : k < length (unionSets T) = subst (λ (n : ℕ). k < n) count h in
+        let i = listed-with-row a b (getD (unionSets T) k []) (member-get [] (unionSets T) k g) in
+        let p = positions k g in (
+          subst (λ (l : List (List ℕ)). positionAt T table sets k < length l) (sym rows)
+              (subst (λ (q : ℕ). q < length (fusedRows T)) (sym p) (i .0)),
+          ap₂ (λ (l : List (List ℕ)) (q : ℕ). getD l q []) rows p ∙ i .1
+              ∙ ap (λ (l : List (List Bool)). joined T (getD l k [])) (sym listed),
+        );
+    joined-rows = λ r.
+        let i = fused-exactly a b r in (
+          λ h. let j = i .0 (to-rows r h) in (j .0, to-listed (j .0) (j .1), j .2),
+          λ j. to-table r (i .1 (j .0, to-sets (j .0) (j .1), j .2)),
+        );
+    rows-once = subst (λ (l : List (List ℕ)). StrictlyAscending compareRow l) (sym rows) (fused-once a b);
+    every-row = λ t h. let i = every-row a b t h in (i .0, to-table (i .0) (i .1), i .2);
+    every-minimum-row = λ t h. let i = every-minimum-row a b t h in (i .0, to-table (i .0) (i .1), i .2);
+  }
+
+-- a fused table and a set list at the front of the buffers
+module _ (a b rest restSets : List ℕ) (room setRoom : ℕ) (values : List ℕ) (d : ComplementDone a b room setRoom values) where
+  table-read : imageRows (fusedImage a b ++ rest) ≡ fusedRows (unionRows a b)
+  unfolding fusedImage
+  table-read =
+      image-rows-front (unionIds a b) (fusedRows (unionRows a b)) (omega (arith, d .accepted .columns)) rest
+      (omega (arith, d .few-sets, fused-count (unionRows a b)))
+      (fused-even (unionRows a b) (length (unionIds a b)) (rows-even a b))
+
+  written-demand : Demand3 (unionRows a b) (fusedImage a b ++ rest) (setList (unionRows a b) ++ restSets)
+  written-demand =
+      let t = unionRows a b in
+      read-demand a b (fusedImage a b ++ rest) (setList t ++ restSets) table-read
+      (sets-read t restSets (d .few-sets) (accepted-rows a b (d .accepted)))
+      (count-read t restSets (d .few-sets))
+      (positions-at t restSets (d .few-sets))
+
+-- ---- the equations of the promise give its demand
+
+module _ (a b table sets : List ℕ) (answer : Outcome) (tableAfter setsAfter : List ℕ)
+    (answers : answer ≡ complementOutcome a b (length table) (length sets))
+    (writes : tableAfter ≡ afterwards answer (fusedImage a b) table)
+    (lists : setsAfter ≡ afterwards answer (setList (unionRows a b)) sets) where
+  meets-demand : Fused answer a b tableAfter setsAfter
+  unfolding Fused
+  meets-demand = λ values e.
+      let image = fusedImage a b in
+      let list = setList (unionRows a b) in
+      let t : tableAfter ≡ image ++ drop (length image) table = writes ∙ ap (λ (o : Outcome). afterwards o image table) e in
+      let s : setsAfter ≡ list ++ drop (length list) sets = lists ∙ ap (λ (o : Outcome). afterwards o list sets) e in
+      subst (λ (x : List ℕ). Demand3 (unionRows a b) x setsAfter) (sym t)
+      (subst (λ (x : List ℕ). Demand3 (unionRows a b) (image ++ drop (length image) table) x) (sym s)
+      (written-demand a b (drop (length image) table) (drop (length list) sets) (length table) (length sets) values
+      (complement-done a b (length table) (length sets) values .0 (sym answers ∙ e))))
+
+  pub complement-promised : ComplementPromise a b table sets answer tableAfter setsAfter
+  complement-promised = record { answers = answers; writes = writes; lists = lists; demand = meets-demand }
+
+-- ---- the words that a call has written, and those past them
+
+-- the words of a result that an answer writes: all, or on a refusal none
+abbrev written : Outcome → List ℕ → List ℕ
+written (done values) result = result
+written (refused number table) result = []
+
+-- a buffer begins with the written words, and has past them what was found there
+module _ (answer : Outcome) (result found after : List ℕ) (w : after ≡ afterwards answer result found) (n : ℕ)
+    (size : length (written answer result) ≡ n) where
+  parts : after ≡ written answer result ++ drop (length (written answer result)) found
+  parts = w ∙ apart answer
+    where
+      apart : (o : Outcome) → afterwards o result found ≡ written o result ++ drop (length (written o result)) found
+      apart (done values) = refl
+      apart (refused number table) = refl
+
+  front : take n after ≡ written answer result
+  front = ap (take n) parts ∙ take-at (written answer result) _ n size
+
+  past : drop n after ≡ drop n found
+  past = ap (drop n) parts ∙ drop-at (written answer result) _ n size ∙ ap (λ (k : ℕ). drop k found) size
+
+-- the counts that an answer of complement union carries
+table-count : (a b : List ℕ) (room setRoom : ℕ) (x : Outcome) → x ≡ complementOutcome a b room setRoom
+    → length (written x (fusedImage a b)) ≡ tableWords x
+table-count a b room setRoom (done values) e =
+    sym (ap (λ (l : List ℕ). getD l 1 0) (complement-done a b room setRoom values .0 (sym e) .carries))
+table-count a b room setRoom (refused number table) e = refl
+
+set-count : (a b : List ℕ) (room setRoom : ℕ) (x : Outcome) → x ≡ complementOutcome a b room setRoom
+    → length (written x (setList (unionRows a b))) ≡ setWords x
+set-count a b room setRoom (done values) e =
+    sym (ap (λ (l : List ℕ). getD l 4 0) (complement-done a b room setRoom values .0 (sym e) .carries))
+set-count a b room setRoom (refused number table) e = refl
+
+module _ {a b table sets : List ℕ} {answer : Outcome} {tableAfter setsAfter : List ℕ}
+    (p : ComplementPromise a b table sets answer tableAfter setsAfter) where
+  table-size : length (written answer (fusedImage a b)) ≡ tableWords answer
+  table-size = table-count a b (length table) (length sets) answer (p .answers)
+
+  set-size : length (written answer (setList (unionRows a b))) ≡ setWords answer
+  set-size = set-count a b (length table) (length sets) answer (p .answers)
+
+  table-front : take (tableWords answer) tableAfter ≡ written answer (fusedImage a b)
+  table-front = front answer (fusedImage a b) table tableAfter (p .writes) (tableWords answer) table-size
+
+  set-front : take (setWords answer) setsAfter ≡ written answer (setList (unionRows a b))
+  set-front = front answer (setList (unionRows a b)) sets setsAfter (p .lists) (setWords answer) set-size
+
+  -- "Words past the written ones stay as found."
+  pub table-past : drop (tableWords answer) tableAfter ≡ drop (tableWords answer) table
+  table-past = past answer (fusedImage a b) table tableAfter (p .writes) (tableWords answer) table-size
+
+  pub sets-past : drop (setWords answer) setsAfter ≡ drop (setWords answer) sets
+  sets-past = past answer (setList (unionRows a b)) sets setsAfter (p .lists) (setWords answer) set-size
+
+-- ---- demand 3, last sentence
+
+-- "Any other accepted pair with the same union columns and the same T,"
+module _ (a b c d : List ℕ) (ab : Accepted a b) (cd : Accepted c d) (columns : unionIds a b ≡ unionIds c d)
+    (rows : unionRows a b ≡ unionRows c d) where
+  same-image : fusedImage a b ≡ fusedImage c d
+  unfolding fusedImage
+  same-image = ap₂ (λ (ids : List ℕ) (t : List (List ℕ)). imageOf ids (fusedRows t)) columns rows
+
+  same-outcome : (room setRoom : ℕ) → complementOutcome a b room setRoom ≡ complementOutcome c d room setRoom
+  unfolding complementOutcome
+  same-outcome room setRoom = accepted-on a b _ ab ∙ rw (same-image, rows) (sym (accepted-on c d _ cd))
+
+  -- "given a table buffer and a set buffer as long as the first pair's, gets from complement union the same answer, done
+  -- or refused, and the same written words."
+  pub same-calls : (table₁ table₂ sets₁ sets₂ : List ℕ) → length table₁ ≡ length table₂ → length sets₁ ≡ length sets₂
+      → (x y : Outcome) (tableAfter₁ tableAfter₂ setsAfter₁ setsAfter₂ : List ℕ)
+      → ComplementPromise a b table₁ sets₁ x tableAfter₁ setsAfter₁ → ComplementPromise c d table₂ sets₂ y tableAfter₂ setsAfter₂
+      → SameResult x y tableAfter₁ tableAfter₂ setsAfter₁ setsAfter₂
+  same-calls table₁ table₂ sets₁ sets₂ room setRoom x y tableAfter₁ tableAfter₂ setsAfter₁ setsAfter₂ p q =
+      let e : x ≡ y =
+      p .answers ∙ same-outcome (length table₁) (length sets₁) ∙ ap₂ (complementOutcome c d) room setRoom ∙ sym (q .answers) in
+      record {
+        answer = e;
+        table-words = table-front p ∙ ap₂ written e same-image ∙ sym (table-front q);
+        set-words = set-front p ∙ ap₂ written e (ap setList rows) ∙ sym (set-front q);
+      }
+
+-- answers of complement union that say the same are the same
+pub says-same : (x y : ComplementAnswer) → complementSays x ≡ complementSays y → x ≡ y
+says-same (complement.Done rows words filled sets listWords) (complement.Done rows' words' filled' sets' listWords') e = cc
+says-same (complement.Done rows words filled sets listWords) (complement.Refused number' table') e = cc
+says-same (complement.Refused number table) (complement.Done rows' words' filled' sets' listWords') e = cc
+says-same (complement.Refused number table) (complement.Refused number' table') e = cc
