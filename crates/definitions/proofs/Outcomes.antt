@@ -4,26 +4,31 @@ use mathlib.Core.Path.{_≡_, refl, sym, _∙_, ap}
 use mathlib.Core.Bool.{Bool, true, false}
 use mathlib.Core.Logic.{_↔_}
 use mathlib.Core.List.{List, [], _∷_, flatten}
-use Prim.Native.Nat.{ℕ, zero, suc, _≤_}
+use Prim.Native.Nat.{ℕ, zero, suc, _≤_, _<_}
 use native.Mathlib.Omega.{arith}
 use lib.Dec.{leb}
 use lib.ListN.{length}
-use borrow.Author.Tests.{leb-true, le-leb}
+use borrow.Author.Tests.{leb-true, le-leb, lt-leb}
 use Rattle.definitions.specs.Limits.{maxColumns, maxRows, maxSets}
 use Rattle.definitions.specs.OuterUnion.{unionIds, unionRows}
 use Rattle.definitions.specs.MinimumUnion.{filled, minimumRows, pairsTried}
 use Rattle.definitions.specs.ComplementUnion.{unionSets, fusedRows}
 use Rattle.definitions.specs.SetList.{setList}
 use Rattle.definitions.specs.Questions.{imageNumber}
-use Rattle.definitions.specs.Answer.{Outcome, done, unless, no}
+use Rattle.definitions.specs.Answer.{Outcome, done, refused, unless, no}
 use Rattle.definitions.specs.Calls.{Accepted, pairNumber, tableRoom, outerImage, minimumImage, fusedImage, outerOutcome, minimumOutcome, complementOutcome}
 
 unless-done : (number table : ℕ) (rest : Outcome) (values : List ℕ) → unless number table rest ≡ done values → (number ≡ 0) × (rest ≡ done values)
 unless-done zero table rest values e = (refl, e)
 unless-done (suc number) table rest values e = absurd (let z : _≡_ {A = ℕ} 0 1 = cc in omega arith)
 
-unless-passed : (number table : ℕ) (rest : Outcome) → number ≡ 0 → unless number table rest ≡ rest
+pub unless-passed : (number table : ℕ) (rest : Outcome) → number ≡ 0 → unless number table rest ≡ rest
 unless-passed number table rest e = ap (λ (k : ℕ). unless k table rest) e
+
+-- a number other than 0 refuses, whatever would follow
+pub unless-refused : (number table : ℕ) (rest : Outcome) → (number ≡ 0 → ⊥) → unless number table rest ≡ refused number table
+unless-refused zero table rest h = absurd (h refl)
+unless-refused (suc number) table rest h = refl
 
 no-yes : (b : Bool) (number : ℕ) → no b (suc number) ≡ 0 → b ≡ true
 no-yes true number e = refl
@@ -34,6 +39,13 @@ within-done x y number e = leb-true x y (no-yes (leb x y) number e)
 
 within-passed : (x y number : ℕ) → x ≤ y → no (leb x y) number ≡ 0
 within-passed x y number h = ap (λ (b : Bool). no b number) (le-leb x y h)
+
+-- a question with a number other than 0 on the result, by its test
+pub asked-no : (x y number : ℕ) (rest : Outcome) → y < x → refused (suc number) 2 ≡ unless (no (leb x y) (suc number)) 2 rest
+asked-no x y number rest h = sym (ap (λ (b : Bool). unless (no b (suc number)) 2 rest) (lt-leb x y h))
+
+pub asked-yes : (x y number : ℕ) (rest : Outcome) → x ≤ y → rest ≡ unless (no (leb x y) number) 2 rest
+asked-yes x y number rest h = sym (unless-passed (no (leb x y) number) 2 rest (within-passed x y number h))
 
 -- an accepted pair goes on to the next question
 pub accepted-on : (a b : List ℕ) (rest : Outcome) → Accepted a b → pairNumber a b rest ≡ rest

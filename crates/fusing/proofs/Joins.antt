@@ -6,7 +6,7 @@ use Prim.Native.Nat.{ℕ, _+_, _*_, _<_, _≤_}
 use native.Mathlib.Nat.{add-mul, one-mul, zero-mul, zero-add}
 use native.Mathlib.Omega.{arith}
 use lib.ListN.{length, getD, take, length-map}
-use lib.Seq.{paste, getD-take, length-take-le}
+use lib.Seq.{paste}
 use Rattle.definitions.specs.Image.{rowsIn}
 use Rattle.definitions.specs.ComplementUnion.{joined, unionSets}
 use Rattle.definitions.specs.SetList.{bits}
@@ -15,62 +15,56 @@ use Rattle.definitions.proofs.Lists.{map-at, member-get, map-member}
 use Rattle.definitions.proofs.Counts.{flatten-length}
 use Rattle.lists.proofs.Flat.{Wide, row-fits, flat-row, pasted-rows}
 use Rattle.lists.proofs.Pastes.{Pasted, paste-none, pasted-more}
-use Rattle.patterns.specs.Columns.{ColumnsOf}
+use Rattle.fusing.specs.Fused.{RowsOf, AllSetsOf, joinedRows}
 use Rattle.fusing.specs.Join.{pickFrom}
 use Rattle.fusing.proofs.Picks.{joined-wide, picks-joined}
 
 -- as many sets as are listed
-pub sets-count : (sets : List ℕ) (count : ℕ) (ss : List (List Bool)) → count ≤ length sets → take count sets ≡ map bits ss → length ss ≡ count
-sets-count sets count ss room known = sym (sym (length-take-le count sets room) ∙ ap length known ∙ length-map ss bits)
+pub sets-count : (sets : List ℕ) (ss : List (List Bool)) → sets ≡ map bits ss → length ss ≡ length sets
+sets-count sets ss known = sym (ap length known ∙ length-map ss bits)
 
-pub set-at : (sets : List ℕ) (count k : ℕ) (ss : List (List Bool)) → count ≤ length sets → take count sets ≡ map bits ss → k < count
-    → getD sets k 0 ≡ bits (getD ss k [])
-set-at sets count k ss room known more =
-    sym (getD-take count sets k 0 more)
-    ∙ ap (λ (l : List ℕ). getD l k 0) known
-    ∙ map-at bits [] 0 ss k (omega (arith, sets-count sets count ss room known))
+pub set-at : (sets : List ℕ) (k : ℕ) (ss : List (List Bool)) → sets ≡ map bits ss → k < length sets → getD sets k 0 ≡ bits (getD ss k [])
+set-at sets k ss known more =
+    ap (λ (l : List ℕ). getD l k 0) known ∙ map-at bits [] 0 ss k (omega (arith, sets-count sets ss known))
 
-abbrev pub joinedRows : List (List ℕ) → List (List ℕ)
-joinedRows rows = map (joined rows) (unionSets rows)
-
-module _ (c n count : ℕ) (w columns sets found : List ℕ) (fits : n * c ≤ length w) (o : ColumnsOf (rowsIn c n w) c columns)
-    (room : count ≤ length sets) (known : take count sets ≡ map bits (unionSets (rowsIn c n w))) (space : count * c ≤ length found) where
+module _ {w : List ℕ} {n c : ℕ} {columns sets : List ℕ} (o : RowsOf w n c columns) (g : AllSetsOf (rowsIn c n w) sets)
+    (found : List ℕ) (space : length sets * c ≤ length found) where
   abbrev rows : List (List ℕ)
   rows = rowsIn c n w
 
-  joins-count : length (joinedRows rows) ≡ count
-  joins-count = length-map (unionSets rows) (joined rows) ∙ sets-count sets count (unionSets rows) room known
+  joins-count : length (joinedRows rows) ≡ length sets
+  joins-count = length-map (unionSets rows) (joined rows) ∙ sets-count sets (unionSets rows) (g .listed)
 
   joins-wide : Wide c (joinedRows rows)
   joins-wide r h =
       let m = map-member (joined rows) r (unionSets rows) h in
-      ap (λ (t : List ℕ). length t) (m .2) ∙ joined-wide c n w columns fits o (m .0) (m .1)
+      ap (λ (t : List ℕ). length t) (m .2) ∙ joined-wide c n w columns (o .fits) (o .filled) (m .0) (m .1)
 
-  joins-size : length (flatten (joinedRows rows)) ≡ count * c
+  joins-size : length (flatten (joinedRows rows)) ≡ length sets * c
   joins-size = flatten-length c (joinedRows rows) joins-wide ∙ ap (λ (k : ℕ). k * c) joins-count
 
   pub joins-none : Pasted found 0 (flatten (joinedRows rows)) (0 * c) found
   joins-none = subst (λ (k : ℕ). Pasted found 0 (flatten (joinedRows rows)) k found) (sym (zero-mul c)) (paste-none found 0 (flatten (joinedRows rows)))
 
-  pub joins-turn : (k at : ℕ) (now new : List ℕ) → k < count → at ≡ k * c → Pasted found 0 (flatten (joinedRows rows)) (k * c) now
+  pub joins-turn : (k at : ℕ) (now new : List ℕ) → k < length sets → at ≡ k * c → Pasted found 0 (flatten (joinedRows rows)) (k * c) now
       → new ≡ paste now at (pickFrom c w (getD sets k 0) 0 (take c columns)) c → Pasted found 0 (flatten (joinedRows rows)) ((k + 1) * c) new
   joins-turn k at now new more here p e =
       let size = joins-size in
-      let number = joins-count in
-      let within : k * c + c ≤ count * c = row-fits c count k more in
+      let count = joins-count in
+      let within : k * c + c ≤ length sets * c = row-fits c (length sets) k more in
       let s = getD (unionSets rows) k [] in
-      let l : k < length (unionSets rows) = omega (arith, sets-count sets count (unionSets rows) room known) in
+      let l : k < length (unionSets rows) = omega (arith, sets-count sets (unionSets rows) (g .listed)) in
       let member : Member s (unionSets rows) = member-get [] (unionSets rows) k l in
       let row : pickFrom c w (getD sets k 0) 0 (take c columns) ≡ joined rows s =
-      ap (λ (x : ℕ). pickFrom c w x 0 (take c columns)) (set-at sets count k (unionSets rows) room known more) ∙ picks-joined c n w columns fits o s member in
+      ap (λ (x : ℕ). pickFrom c w x 0 (take c columns)) (set-at sets k (unionSets rows) (g .listed) more) ∙ picks-joined c n w columns (o .fits) (o .filled) s member in
       let next : k * c + c ≡ (k + 1) * c = omega (arith, add-mul k 1 c, one-mul c) in
       subst (λ (i : ℕ). Pasted found 0 (flatten (joinedRows rows)) i new) next
       (pasted-more found 0 (flatten (joinedRows rows)) (k * c) now new (joined rows s) c at (omega arith) (omega arith) p (here ∙ sym (zero-add (k * c)))
-      (joined-wide c n w columns fits o s member)
+      (joined-wide c n w columns (o .fits) (o .filled) s member)
       (flat-row c [] (joinedRows rows) k joins-wide (omega arith) ∙ map-at (joined rows) [] [] (unionSets rows) k l)
       (e ∙ ap (λ (r : List ℕ). paste now at r c) row))
 
-  pub joins-end : (k : ℕ) (now : List ℕ) → k ≡ count → Pasted found 0 (flatten (joinedRows rows)) (k * c) now → rowsIn c count now ≡ joinedRows rows
+  pub joins-end : (k : ℕ) (now : List ℕ) → k ≡ length sets → Pasted found 0 (flatten (joinedRows rows)) (k * c) now → rowsIn c (length sets) now ≡ joinedRows rows
   joins-end k now e p =
-      pasted-rows c count (joinedRows rows) found now joins-wide joins-count
+      pasted-rows c (length sets) (joinedRows rows) found now joins-wide joins-count
       (p .words ∙ ap (λ (i : ℕ). paste found 0 (flatten (joinedRows rows)) (i * c)) e)

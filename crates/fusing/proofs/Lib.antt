@@ -1,4 +1,4 @@
--- Laws of the graph of T, of joined rows and of the set list.
+-- Laws of the graph of T, of joined rows and of the fused table.
 pub mod Lists
 pub mod Words
 pub mod Rests
@@ -11,6 +11,5 @@ pub mod Narrowing
 pub mod Neighbours
 pub mod Picks
 pub mod Joins
-pub mod Places
-pub mod Records
-pub mod Fused
+pub mod RowPositions
+pub mod FusedTables

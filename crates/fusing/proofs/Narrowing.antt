@@ -19,7 +19,7 @@ use Rattle.bitsets.proofs.Bits.{Lowest, has-both, has-or}
 use Rattle.patterns.specs.Columns.{ColumnsOf}
 use Rattle.patterns.proofs.FilledRows.{filled-has}
 use Rattle.patterns.proofs.Parts.{row-length}
-use Rattle.fusing.specs.Groups.{cellIn, Groups}
+use Rattle.fusing.specs.Groups.{cellAt, Groups}
 use Rattle.fusing.specs.Graph.{NarrowedBy, Narrowed}
 use Rattle.fusing.proofs.Words.{has-lacked}
 use Rattle.fusing.proofs.Rests.{passed, passed-none, passed-all, among-more, next-not, passed-next, passed-else, passed-cases}
@@ -121,12 +121,12 @@ module _ (c n : ℕ) (w columns found : List ℕ) (few : n ≤ 64) (fits : n * c
   wide : (k : ℕ) → k < length rows → length (getD rows k []) ≡ c
   wide k h = ap length (rows-at c n k w (below k h)) ∙ row-length c n k w fits (below k h)
 
-  module _ (i filled : ℕ) (leaders equal now new : List ℕ) (more : i < c) (column : filled ≡ getD columns i 0) (g : Groups (cellIn c w i) filled leaders equal)
+  module _ (i filled : ℕ) (leaders equal now new : List ℕ) (more : i < c) (column : filled ≡ getD columns i 0) (g : Groups (cellAt c w i) filled leaders equal)
       (b : NarrowedBy filled leaders equal now new) where
     abbrev cell : ℕ → ℕ
     cell k = getD (getD rows k []) i 0
 
-    cell-is : (k : ℕ) → k < length rows → cellIn c w i k ≡ cell k
+    cell-is : (k : ℕ) → k < length rows → cellAt c w i k ≡ cell k
     cell-is k h = sym (ap (λ (r : List ℕ). getD r i 0) (rows-at c n k w (below k h)) ∙ cell-at c k i w more)
 
     held-is : (k : ℕ) → k < length rows → has filled k ≡ isFilled (cell k)

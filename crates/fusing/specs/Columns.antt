@@ -11,5 +11,5 @@ abbrev pub Reach : ℕ → List ℕ → ℕ → ℕ → Type 0
 Reach width cells column set = (k : ℕ) → has set k ≡ true → k * width + column < length cells
 
 -- the same of each column's word
-abbrev pub Within : ℕ → List ℕ → List ℕ → Type 0
-Within width columns cells = (c : ℕ) → c < width → Reach width cells c (getD columns c 0)
+abbrev pub AllReach : ℕ → List ℕ → List ℕ → Type 0
+AllReach width columns cells = (c : ℕ) → c < width → Reach width cells c (getD columns c 0)

@@ -8,8 +8,8 @@ use lib.ListN.{length, getD}
 use Rattle.bitsets.specs.Bits.{has}
 
 -- the cells of a column, by their rows
-abbrev pub cellIn : ℕ → List ℕ → ℕ → ℕ → ℕ
-cellIn width cells column k = getD cells (k * width + column) 0
+abbrev pub cellAt : ℕ → List ℕ → ℕ → ℕ → ℕ
+cellAt width cells column k = getD cells (k * width + column) 0
 
 -- r is one of the rows, with the cell x; or it is j, and none of the rows has that cell
 pub record LeaderOf (cell : ℕ → ℕ) (x rows j r : ℕ) : Type 0 where

@@ -1,15 +1,18 @@
 // The graph of T: which rows complement each other. They agree in every column, and of their filled columns some are common and some are
 // each row's own. Both are told of all rows at once, by a bit a row, column by column.
-ghost use Prim.Native.Nat.{_*_, _≤_};
+ghost use Prim.Native.Nat.{_≤_};
 ghost use lib.ListN.{length};
-ghost use Rattle.definitions.specs.Limits.{maxUnionRows};
 ghost use Rattle.definitions.specs.Image.{rowsIn};
 ghost use Rattle.bitsets.specs.Bits.{Inside};
-ghost use Rattle.patterns.specs.Columns.{ColumnsOf};
+ghost use Rattle.fusing.specs.Fused.{RowsOf};
 ghost use Rattle.fusing.specs.Groups.{Led};
 ghost use Rattle.fusing.specs.Graph.{Crossing, CrossingRows, NarrowedBy, Narrowed, GraphOf};
 use crate::groups::group_rows;
+use definitions::MAX_UNION_ROWS;
 use patterns::blank;
+
+// The word with every bit.
+const ALL_ROWS: u64 = 18446744073709551615;
 
 // The rows whose filled columns cross those of a row: filled somewhere where the row is (`shared`), but not everywhere where it is
 // (`above`), nor nowhere else (`within`).
@@ -18,8 +21,8 @@ fn crossing(row: &[u32], columns: &[u64]) -> u64
     ensures { λ r. ⌜ Crossing (now (row .entry)) (now (columns .entry)) r ⌝ }
 {
     let mut shared = 0;
-    let mut above = 18446744073709551615;
-    let mut within = 18446744073709551615;
+    let mut above = ALL_ROWS;
+    let mut within = ALL_ROWS;
     let mut c = 0;
     while c < row.len() {
         let filled = columns[c];
@@ -34,7 +37,7 @@ fn crossing(row: &[u32], columns: &[u64]) -> u64
 
 // Writes for each of the first n rows those that cross it.
 fn cross_rows(cells: &[u32], n: usize, width: usize, columns: &[u64], neighbours: &mut [u64])
-    requires { ⌜ (n ≤ maxUnionRows) × (n * width ≤ length (now cells)) × ColumnsOf (rowsIn width n (now cells)) width (now columns) × (n ≤ length (now neighbours)) ⌝ }
+    requires { ⌜ RowsOf (now cells) n width (now columns) × (n ≤ length (now neighbours)) ⌝ }
     ensures { λ r. ⌜ CrossingRows (rowsIn width n (now (cells .entry))) (now (neighbours .exit)) ⌝ }
 {
     let mut j = 0;
@@ -49,8 +52,10 @@ fn cross_rows(cells: &[u32], n: usize, width: usize, columns: &[u64], neighbours
 
 // Leaves to each row that is filled in a column the neighbours that are in its group there, or not filled.
 fn narrow_rows(filled: u64, leaders: &[usize], equal: &[u64], neighbours: &mut [u64])
-    requires { ⌜ Led filled (now leaders) (now equal) × Inside filled (length (now leaders)) × Inside filled (length (now neighbours)) ⌝ }
-    ensures { λ r. ⌜ NarrowedBy filled (now (leaders .entry)) (now (equal .entry)) (now (neighbours .entry)) (now (neighbours .exit)) ⌝ }
+    requires { ⌜ Led filled (now leaders) (now equal) × Inside filled (length (now leaders))
+        × Inside filled (length (now neighbours)) ⌝ }
+    ensures { λ r. ⌜ NarrowedBy filled (now (leaders .entry)) (now (equal .entry)) (now (neighbours .entry))
+        (now (neighbours .exit)) ⌝ }
 {
     let mut rest = filled;
     while rest != 0 {
@@ -62,11 +67,12 @@ fn narrow_rows(filled: u64, leaders: &[usize], equal: &[u64], neighbours: &mut [
 
 // Leaves to each of the first n rows the neighbours that agree with it.
 fn narrow_columns(cells: &[u32], n: usize, width: usize, columns: &[u64], neighbours: &mut [u64])
-    requires { ⌜ (n ≤ maxUnionRows) × (n * width ≤ length (now cells)) × ColumnsOf (rowsIn width n (now cells)) width (now columns) × (n ≤ length (now neighbours)) ⌝ }
-    ensures { λ r. ⌜ Narrowed (rowsIn width n (now (cells .entry))) (now (neighbours .entry)) (now (neighbours .exit)) ⌝ }
+    requires { ⌜ RowsOf (now cells) n width (now columns) × (n ≤ length (now neighbours)) ⌝ }
+    ensures { λ r. ⌜ Narrowed (rowsIn width n (now (cells .entry))) (now (neighbours .entry))
+        (now (neighbours .exit)) ⌝ }
 {
-    let mut leaders = [0usize; 64];
-    let mut equal = [0u64; 64];
+    let mut leaders = [0usize; MAX_UNION_ROWS];
+    let mut equal = [0u64; MAX_UNION_ROWS];
     let mut c = 0;
     while c < width {
         let filled = columns[c];
@@ -77,14 +83,14 @@ fn narrow_columns(cells: &[u32], n: usize, width: usize, columns: &[u64], neighb
 }
 
 // Writes the graph of the first n rows, of which each column's word holds those that are filled there.
-pub fn fill_neighbours(
+pub(crate) fn fill_neighbours(
     cells: &[u32],
     n: usize,
     width: usize,
     columns: &[u64],
     neighbours: &mut [u64],
 )
-    requires { ⌜ (n ≤ maxUnionRows) × (n * width ≤ length (now cells)) × ColumnsOf (rowsIn width n (now cells)) width (now columns) × (n ≤ length (now neighbours)) ⌝ }
+    requires { ⌜ RowsOf (now cells) n width (now columns) × (n ≤ length (now neighbours)) ⌝ }
     ensures { λ r. ⌜ GraphOf (rowsIn width n (now (cells .entry))) (now (neighbours .exit)) ⌝ }
 {
     cross_rows(cells, n, width, columns, neighbours);

@@ -4,12 +4,12 @@ ghost use mathlib.Core.Bool.{false};
 ghost use lib.ListN.{length};
 ghost use Rattle.bitsets.specs.Bits.{has, Inside};
 ghost use Rattle.fusing.specs.Columns.{Reach};
-ghost use Rattle.fusing.specs.Groups.{cellIn, LeaderOf, Groups};
+ghost use Rattle.fusing.specs.Groups.{cellAt, LeaderOf, Groups};
 
 // A row of the set that has the cell in column c, the first; j where none has.
 fn leader(cells: &[u32], width: usize, c: usize, cell: u32, rows: u64, j: usize) -> usize
     requires { ⌜ Reach width (now cells) c rows × (has rows j ≡ false) ⌝ }
-    ensures { λ r. ⌜ LeaderOf (cellIn width (now (cells .entry)) c) cell rows j r ⌝ }
+    ensures { λ r. ⌜ LeaderOf (cellAt width (now (cells .entry)) c) cell rows j r ⌝ }
 {
     let mut rest = rows;
     while rest != 0 {
@@ -32,8 +32,10 @@ pub(crate) fn group_rows(
     leaders: &mut [usize],
     equal: &mut [u64],
 )
-    requires { ⌜ Reach width (now cells) c filled × Inside filled (length (now leaders)) × Inside filled (length (now equal)) ⌝ }
-    ensures { λ r. ⌜ Groups (cellIn width (now (cells .entry)) c) filled (now (leaders .exit)) (now (equal .exit)) ⌝ }
+    requires { ⌜ Reach width (now cells) c filled × Inside filled (length (now leaders))
+        × Inside filled (length (now equal)) ⌝ }
+    ensures { λ r. ⌜ Groups (cellAt width (now (cells .entry)) c) filled (now (leaders .exit))
+        (now (equal .exit)) ⌝ }
 {
     let mut marks = [0u64; 16];
     let mut rest = filled;

@@ -1,15 +1,12 @@
 // The joined rows of sets. In each column the first member that is filled there has the number, so that a joined row takes one step a
 // column, however many members there are.
 ghost use mathlib.Core.Path.{_≡_};
-ghost use mathlib.Core.List.{map};
 ghost use Prim.Native.Nat.{_+_, _*_, _≤_};
 ghost use lib.ListN.{length, take};
 ghost use lib.Seq.{paste};
 ghost use Rattle.definitions.specs.Image.{rowsIn};
-ghost use Rattle.definitions.specs.ComplementUnion.{joined, unionSets};
-ghost use Rattle.definitions.specs.SetList.{bits};
-ghost use Rattle.patterns.specs.Columns.{ColumnsOf};
-ghost use Rattle.fusing.specs.Columns.{Reach, Within};
+ghost use Rattle.fusing.specs.Columns.{Reach, AllReach};
+ghost use Rattle.fusing.specs.Fused.{RowsOf, AllSetsOf, joinedRows};
 ghost use Rattle.fusing.specs.Join.{pickCell, pickFrom};
 
 // The cell in a column of the first row of the set; empty where the set is.
@@ -26,8 +23,10 @@ fn pick_cell(cells: &[u32], width: usize, column: usize, set: u64) -> u32
 
 // Writes the joined row of the set over the words of out from `at`.
 fn join_set(cells: &[u32], columns: &[u64], width: usize, set: u64, out: &mut [u32], at: usize)
-    requires { ⌜ (width ≤ length (now columns)) × Within width (now columns) (now cells) × (at + width ≤ length (now out)) ⌝ }
-    ensures { λ r. ⌜ now (out .exit) ≡ paste (now (out .entry)) at (pickFrom width (now (cells .entry)) set 0 (take width (now (columns .entry)))) width ⌝ }
+    requires { ⌜ (width ≤ length (now columns)) × AllReach width (now columns) (now cells)
+        × (at + width ≤ length (now out)) ⌝ }
+    ensures { λ r. ⌜ now (out .exit) ≡ paste (now (out .entry)) at
+        (pickFrom width (now (cells .entry)) set 0 (take width (now (columns .entry)))) width ⌝ }
 {
     let mut i = 0;
     while i < width {
@@ -36,22 +35,23 @@ fn join_set(cells: &[u32], columns: &[u64], width: usize, set: u64, out: &mut [u
     }
 }
 
-// Writes the joined rows of the first count sets, which are the maximal complementing sets of the first n rows.
-pub fn join_sets(
+// Writes the joined rows of the maximal sets of the first n rows.
+pub(crate) fn join_sets(
     cells: &[u32],
     n: usize,
     width: usize,
     columns: &[u64],
     sets: &[u64],
-    count: usize,
     out: &mut [u32],
 )
-    requires { ⌜ (n * width ≤ length (now cells)) × ColumnsOf (rowsIn width n (now cells)) width (now columns) × (count ≤ length (now sets)) × (take count (now sets) ≡ map bits (unionSets (rowsIn width n (now cells)))) × (count * width ≤ length (now out)) ⌝ }
-    ensures { λ r. ⌜ rowsIn width count (now (out .exit)) ≡ map (joined (rowsIn width n (now (cells .entry)))) (unionSets (rowsIn width n (now (cells .entry)))) ⌝ }
+    requires { ⌜ RowsOf (now cells) n width (now columns) × AllSetsOf (rowsIn width n (now cells)) (now sets)
+        × (length (now sets) * width ≤ length (now out)) ⌝ }
+    ensures { λ r. ⌜ rowsIn width (length (now (sets .entry))) (now (out .exit))
+        ≡ joinedRows (rowsIn width n (now (cells .entry))) ⌝ }
 {
     let mut k = 0;
     let mut at = 0;
-    while k < count {
+    while k < sets.len() {
         join_set(cells, columns, width, sets[k], out, at);
         at += width;
         k += 1;

@@ -1,10 +1,9 @@
-// Complement union between T and the words that it writes: who complements whom, the joined rows of sets, and the set list.
+// The steps of complement union from T on: who complements whom, the maximal sets, the joined rows of sets, and the fused table.
+mod fused;
 mod graph;
 mod groups;
 mod join;
-mod list;
+mod positions;
 
-pub use graph::fill_neighbours;
-pub use join::join_sets;
-pub use list::places_of;
-pub use list::write_sets;
+pub use fused::fuse_rows;
+pub use fused::list_sets;

@@ -1,4 +1,4 @@
-// The questions 1 to 7 that are put to a table image.
+// A table image: the questions 1 to 7 that are put to it, and its writing.
 ghost use mathlib.Core.Path.{_≡_};
 ghost use mathlib.Core.List.{map};
 ghost use lib.Dec.{eqb};
@@ -6,6 +6,13 @@ ghost use Rattle.definitions.specs.Lists.{all, any, distinct};
 ghost use Rattle.definitions.specs.Word.{idOf, isCell};
 ghost use Rattle.definitions.specs.Image.{isHeader, isColumn};
 ghost use Rattle.definitions.specs.Questions.{imageNumber};
+use definitions::MAX_COLUMNS;
+
+mod write;
+
+pub use write::Put;
+pub use write::put_image;
+pub use write::write_image;
 
 // Whether a word is a header.
 fn is_header(w: u32) -> bool
@@ -96,7 +103,7 @@ pub fn check_image(image: &[u32], max_rows: u32) -> u32
     if columns < 1 {
         return 2;
     }
-    if 16 < columns {
+    if MAX_COLUMNS < columns {
         return 2;
     }
     let rows = words::rows(h);

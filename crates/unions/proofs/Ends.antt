@@ -1,48 +1,57 @@
 -- How a call with a table buffer alone ends: refused with the buffer as found, or done with its result over the front. Assumes nothing.
-use mathlib.Core.Path.{_≡_, _∙_, ap}
+use mathlib.Core.Path.{_≡_, refl, sym, _∙_, ap, subst}
 use mathlib.Core.List.{List, _∷_, flatten}
-use Prim.Native.Nat.{ℕ, _+_, _*_, _≤_, _<_}
-use native.Mathlib.Omega.{arith}
-use lib.ListN.{length}
+use Prim.Native.Nat.{ℕ}
+use lib.ListN.{length, take}
 use Rattle.definitions.specs.Image.{imageOf}
 use Rattle.definitions.specs.MinimumUnion.{filled}
-use Rattle.definitions.specs.Answer.{Outcome, done, refused, afterwards}
+use Rattle.definitions.specs.Answer.{Outcome, done, refused, unless}
 use Rattle.definitions.specs.Calls.{pairNumber, tableRoom}
-use Rattle.unions.specs.declared.questions.Checks.{Checks}
+use Rattle.definitions.specs.Promise.{TablePromise}
+use Rattle.definitions.proofs.Outcomes.{unless-passed, unless-refused}
+use Rattle.images.specs.declared.write.Put.{Put}
+use Rattle.images.specs.Writing.{PutImage}
+use Rattle.rows.specs.Numbers.{rowsAt}
+use Rattle.tables.specs.declared.Table.{Table}
 use Rattle.tables.specs.Table.{Found}
-use Rattle.unions.specs.Pair.{Checked}
-use Rattle.unions.proofs.Pairs.{pair-refused, pair-accepted, asked-no, asked-yes}
-use Rattle.unions.proofs.Numbered.{Named, Written, named-words, named-written, named-values}
-
--- what is said is the outcome, and the buffer holds what that leaves there
-abbrev Told : (says outcome : Outcome) (image found after : List ℕ) → Type 0
-Told says outcome image found after = (says ≡ outcome) × (after ≡ afterwards outcome image found)
+use Rattle.unions.specs.declared.questions.Checks.{Checks}
+use Rattle.unions.specs.Questions.{Checked}
+use Rattle.unions.proofs.Pairs.{pair-refused, pair-accepted}
+use Rattle.unions.proofs.Tables.{Result}
 
 -- the pair is refused
-pub refused-pair : (a b : List ℕ) {all : List ℕ} (r : Checks) → Checked a b all r → (rest : Outcome) (image found : List ℕ) → (r .number ≡ 0 → ⊥)
-    → Told (refused (r .number) (r .table)) (pairNumber a b rest) image found found
-refused-pair a b {all} r c rest image found h =
-    let e = pair-refused a b all r c rest h in
-    (e, ap (λ (o : Outcome). afterwards o image found) e)
+pub refused-pair : {a b all : List ℕ} (r : Checks) → Checked a b all r → (rest : Outcome) (image found : List ℕ) → (r .number ≡ 0 → ⊥)
+    → TablePromise (pairNumber a b rest) image found (refused (r .number) (r .table)) found
+refused-pair r c rest image found h = record { answers = pair-refused r c rest h; writes = refl }
 
--- the pair is accepted, the rows rs of the result are named, and its answer has more values than their counts
-module _ {a b all : List ℕ} (f : Found a b all) {u : List ℕ} {rs : List (List ℕ)} {ids cells order : List ℕ} {n m : ℕ}
-    (k : Named u rs ids cells order n m) (more found : List ℕ) where
+-- the pair is accepted, the rows of the result are named by m indices, and question 10 is put
+module _ {a b all : List ℕ} (f : Found a b all) {u : List ℕ} {rows : List (List ℕ)} {t : Table} {order : List ℕ} {m : ℕ}
+    (s : Result u rows t order m) {found after : List ℕ} {r : Put}
+    (p : PutImage (take (t .columns) (t .ids)) (rowsAt (t .columns) (t .cells) (take m order)) m found r after) (more : List ℕ) where
   abbrev image : List ℕ
-  image = imageOf u rs
+  image = imageOf u rows
 
-  abbrev outcome : Outcome
-  outcome = pairNumber a b (tableRoom image (length found) (done (length rs ∷ length image ∷ filled (flatten rs) ∷ more)))
+  abbrev roomOutcome : Outcome
+  roomOutcome = tableRoom image (length found) (done (length rows ∷ length image ∷ filled (flatten rows) ∷ more))
 
-  pub refused-room : length found < 1 + n + m * n → Told (refused 10 2) outcome image found found
-  refused-room h =
-      let e : refused 10 2 ≡ outcome = asked-no (length image) (length found) 9 _ (omega (arith, named-words k)) ∙ pair-accepted f _ in
-      (e, ap (λ (o : Outcome). afterwards o image found) e)
+  asked : TablePromise roomOutcome image found (unless (r .number) 2 (done (m ∷ r .words ∷ r .filled ∷ more))) after
+  asked =
+      let q : PutImage u rows m found r after =
+      subst (λ (x : List ℕ). PutImage x rows m found r after) (s .ids)
+      (subst (λ (l : List (List ℕ)). PutImage (take (t .columns) (t .ids)) l m found r after) (s .are) p) in
+      q .promise more
 
-  pub done-room : 1 + n + m * n ≤ length found → (after : List ℕ) (x : ℕ) → Written ids cells order n m found after x → (told : List ℕ) → told ≡ more
-      → Told (done (m ∷ (1 + n + m * n) ∷ x ∷ told)) outcome image found after
-  done-room h after x w told same =
-      let e : done (m ∷ (1 + n + m * n) ∷ x ∷ told) ≡ outcome =
-      ap (λ (l : List ℕ). done (m ∷ (1 + n + m * n) ∷ x ∷ l)) same ∙ ap done (named-values k found after x w more)
-      ∙ asked-yes (length image) (length found) 10 _ (omega (arith, named-words k)) ∙ pair-accepted f _ in
-      (e, named-written k found after x w ∙ ap (λ (o : Outcome). afterwards o image found) e)
+  -- what the answer says, by the number
+  ended : (answer : Outcome) → unless (r .number) 2 (done (m ∷ r .words ∷ r .filled ∷ more)) ≡ answer
+      → TablePromise (pairNumber a b roomOutcome) image found answer after
+  ended answer e =
+      let q = subst (λ (o : Outcome). TablePromise roomOutcome image found o after) e asked in
+      record { answers = q .answers ∙ pair-accepted f roomOutcome; writes = q .writes }
+
+  pub refused-room : (r .number ≡ 0 → ⊥) → TablePromise (pairNumber a b roomOutcome) image found (refused (r .number) 2) after
+  refused-room h = ended (refused (r .number) 2) (unless-refused (r .number) 2 _ h)
+
+  pub done-room : r .number ≡ 0 → (told : List ℕ) → told ≡ more → TablePromise (pairNumber a b roomOutcome) image found (done (m ∷ r .words ∷ r .filled ∷ told)) after
+  done-room h told e =
+      ended (done (m ∷ r .words ∷ r .filled ∷ told))
+      (unless-passed (r .number) 2 _ h ∙ ap (λ (l : List ℕ). done (m ∷ r .words ∷ r .filled ∷ l)) (sym e))

@@ -1,4 +1,3 @@
 -- Words of the contracts between the calls and their parts.
-pub mod Pair
+pub mod Questions
 pub mod Fused
-pub mod Demand3

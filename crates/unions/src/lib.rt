@@ -1,6 +1,6 @@
 // The three unions of two table images. Each call writes its result into the lent buffers, or refuses and changes nothing.
 mod complement;
-mod image;
+mod fused;
 mod minimal;
 mod outer;
 mod questions;

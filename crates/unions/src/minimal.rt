@@ -1,19 +1,41 @@
 // Minimum union: T without the rows that some row of T subsumes, as an image.
-ghost use mathlib.Core.Path.{_≡_};
-ghost use lib.ListN.{length};
-ghost use Rattle.definitions.specs.Answer.{minimumSays, afterwards};
-ghost use Rattle.definitions.specs.Calls.{minimumImage, minimumOutcome};
-use crate::image::write_table;
+ghost use Rattle.definitions.specs.Answer.{minimumSays};
+ghost use Rattle.definitions.specs.Promise.{MinimumPromise};
+ghost use Rattle.tables.specs.Table.{Found};
 use crate::questions::check_pair;
+use definitions::MAX_IDS;
 use definitions::MinimumAnswer;
 use tables::Table;
-use tables::union_rows;
+
+// For an accepted pair, with the ids of both images.
+fn minimise_accepted(a: &[u32], b: &[u32], ids: &[u32], table: &mut [u32]) -> MinimumAnswer
+    requires { ⌜ Found (now a) (now b) (now ids) ⌝ }
+    ensures { λ r. ⌜ MinimumPromise (now (a .entry)) (now (b .entry)) (now (table .entry)) (minimumSays r)
+        (now (table .exit)) ⌝ }
+{
+    let mut t = Table::new(ids);
+    t.rows = tables::union_rows(a, b, ids, &mut t.cells);
+    let mut kept = [0u32; Table::MAX_ROWS];
+    let left = minimum::minimum_rows(&t.cells, t.rows, t.columns, &mut kept);
+    let rows = left.rows;
+    let put = images::put_image(&t.ids, t.columns, &t.cells, &kept, rows, table);
+    let number = put.number;
+    if number != 0 {
+        return MinimumAnswer::Refused { number, table: 2 };
+    }
+    MinimumAnswer::Done {
+        rows,
+        words: put.words,
+        filled: put.filled,
+        pairs: left.pairs,
+    }
+}
 
 pub fn minimum_union(a: &[u32], b: &[u32], table: &mut [u32]) -> MinimumAnswer
-    ensures answers { λ r. ⌜ minimumSays r ≡ minimumOutcome (now (a .entry)) (now (b .entry)) (length (now (table .entry))) ⌝ }
-    ensures writes { λ r. ⌜ now (table .exit) ≡ afterwards (minimumOutcome (now (a .entry)) (now (b .entry)) (length (now (table .entry)))) (minimumImage (now (a .entry)) (now (b .entry))) (now (table .entry)) ⌝ }
+    ensures { λ r. ⌜ MinimumPromise (now (a .entry)) (now (b .entry)) (now (table .entry)) (minimumSays r)
+        (now (table .exit)) ⌝ }
 {
-    let mut all = [0u32; 2 * Table::MAX_COLUMNS];
+    let mut all = [0u32; MAX_IDS];
     let checks = check_pair(a, b, &mut all);
     let number = checks.number;
     if number != 0 {
@@ -23,24 +45,5 @@ pub fn minimum_union(a: &[u32], b: &[u32], table: &mut [u32]) -> MinimumAnswer
         };
     }
     let columns = checks.columns;
-    let found = &all[..columns];
-    let mut t = Table::new(found);
-    t.rows = union_rows(a, b, found, &mut t.cells);
-    let mut kept = [0u32; Table::MAX_ROWS];
-    let left = minimum::minimum_rows(&t.cells, t.rows, t.columns, &mut kept);
-    let rows = left.rows;
-    let words = 1 + t.columns + rows * t.columns;
-    if table.len() < words {
-        return MinimumAnswer::Refused {
-            number: 10,
-            table: 2,
-        };
-    }
-    let filled = write_table(table, &t.ids, t.columns, &t.cells, &kept, rows);
-    MinimumAnswer::Done {
-        rows,
-        words,
-        filled,
-        pairs: left.pairs,
-    }
+    minimise_accepted(a, b, &all[..columns], table)
 }

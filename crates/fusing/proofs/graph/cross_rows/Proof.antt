@@ -29,7 +29,7 @@ module _ (c : tie.In-loop Inv-loop μ-loop) where
 
   -- the next row is within the cells
   row-within : turn .loop .at + start .args .width ≤ length (start .args .cells .now)
-  row-within = omega (arith, turn .loop .inv .1, start .pre .1, row-fits (start .args .width) (start .args .n) (turn .loop .j) (c .loop-test .taken))
+  row-within = omega (arith, turn .loop .inv .1, start .pre .0 .fits, row-fits (start .args .width) (start .args .n) (turn .loop .j) (c .loop-test .taken))
 
   -- and the row after it begins a row's width on
   next-at : turn .loop .at + start .args .width ≡ (turn .loop .j + 1) * start .args .width
@@ -59,14 +59,14 @@ crossing-requires c κs =
     let l = turn i .loop in
     let q = start i in
     let s = q .args in
-    let long = part-length (s .width) (s .n) (l .j) (s .cells .now) (q .pre .1) (i .loop-test .taken) (l .at) (l .inv .1) in
-    omega (arith, long, q .pre .2 .size)
+    let long = part-length (s .width) (s .n) (l .j) (s .cells .now) (q .pre .0 .fits) (i .loop-test .taken) (l .at) (l .inv .1) in
+    omega (arith, long, q .pre .0 .filled .size)
 
 mul-neighbours : tie.Need-mul-neighbours Inv-loop μ-loop
-mul-neighbours c = let i = c .before .before in omega (arith, turn i .loop .inv .2, start i .pre .3)
+mul-neighbours c = let i = c .before .before in omega (arith, turn i .loop .inv .2, start i .pre .1)
 
 slice-write-neighbours : tie.Need-slice-write-neighbours Inv-loop μ-loop
-slice-write-neighbours c = let i = c .before .before in omega (arith, turn i .loop .inv .2, start i .pre .3)
+slice-write-neighbours c = let i = c .before .before in omega (arith, turn i .loop .inv .2, start i .pre .1)
 
 add-j : tie.Need-add-j Inv-loop μ-loop
 add-j c = search needs
@@ -81,12 +81,12 @@ loop-again c =
     let l = turn i .loop in
     let q = start i in
     let s = q .args in
-    let seen = rows-seen (s .width) (s .n) (s .cells .now) (s .columns .now) (q .pre .0) (q .pre .1) (q .pre .2) in (
+    let seen = rows-seen (s .width) (s .n) (s .cells .now) (s .columns .now) (q .pre .0 .few) (q .pre .0 .fits) (q .pre .0 .filled) in (
       omega arith,
       next-at i,
       length-set (l .neighbours) (l .j) (f .result) ∙ l .inv .2,
       crossing-turn (s .width) (s .n) (l .j) (l .at) (s .cells .now) (s .columns .now) (l .neighbours) (f .result) seen
-          (q .pre .1) (i .loop-test .taken) (l .inv .1) (omega (arith, l .inv .2, q .pre .3)) (f .ensures) (l .inv .3),
+          (q .pre .0 .fits) (i .loop-test .taken) (l .inv .1) (omega (arith, l .inv .2, q .pre .1)) (f .ensures) (l .inv .3),
     )
 
 same-length : tie.Need-same-length Inv-loop μ-loop

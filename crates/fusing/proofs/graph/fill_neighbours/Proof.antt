@@ -23,7 +23,7 @@ returns c =
     let x = c .before .before .before .before .before .before .cross-rows in
     let n = c .before .before .narrow-columns in
     graph-of (rowsIn (a .width) (a .n) (a .cells .now)) _ _ (x .ensures) (n .ensures)
-    (omega (arith, rows-length (a .width) (a .n) (a .cells .now), n .kept .1 .1 .1 .1 .0, x .kept .1 .1 .1 .1 .0, s .pre .3))
+    (omega (arith, rows-length (a .width) (a .n) (a .cells .now), n .kept .1 .1 .1 .1 .0, x .kept .1 .1 .1 .1 .0, s .pre .1))
 
 pub fill-neighbours-spec : {M : Type 1} → statement M
 fill-neighbours-spec =

@@ -34,7 +34,7 @@ module _ (c : tie.In-loop Inv-loop μ-loop) where
   below : (k : ℕ) → has (getD (start .args .columns .now) (turn .loop .c) 0) k ≡ true → k < start .args .n
   below k h =
       let s = start .args in
-      let marks = start .pre .2 .marks (turn .loop .c) (c .loop-test .taken) in
+      let marks = start .pre .0 .filled .marks (turn .loop .c) (c .loop-test .taken) in
       omega (
         arith,
         filled-within (rowsIn (s .width) (s .n) (s .cells .now)) (turn .loop .c) k (ap (λ (x : ℕ). has x k) (sym marks) ∙ h),
@@ -47,10 +47,10 @@ loop-holds c =
     (search needs, search needs, search needs, refl, narrowed-none (rowsIn (s .width) (s .n) (s .cells .now)) (s .neighbours .now))
 
 mul-filled : tie.Need-mul-filled Inv-loop μ-loop
-mul-filled c = omega (arith, start c .pre .2 .size)
+mul-filled c = omega (arith, start c .pre .0 .filled .size)
 
 shared-slice-read-filled : tie.Need-shared-slice-read-filled Inv-loop μ-loop
-shared-slice-read-filled c = omega (arith, start (c .before) .pre .2 .size)
+shared-slice-read-filled c = omega (arith, start (c .before) .pre .0 .filled .size)
 
 slice-aggregate-group-rows : tie.Need-slice-aggregate-group-rows Inv-loop μ-loop
 slice-aggregate-group-rows c = search needs
@@ -64,9 +64,9 @@ group-rows-requires c κs =
     let l = turn i .loop in
     let q = start i in
     let s = q .args in (
-      columns-within (s .width) (s .n) (s .cells .now) (s .columns .now) (q .pre .1) (q .pre .2) (l .c) (i .loop-test .taken),
-      λ k h. omega (arith, below i k h, l .inv .1, q .pre .0),
-      λ k h. omega (arith, below i k h, l .inv .2, q .pre .0),
+      columns-within (s .width) (s .n) (s .cells .now) (s .columns .now) (q .pre .0 .fits) (q .pre .0 .filled) (l .c) (i .loop-test .taken),
+      λ k h. omega (arith, below i k h, l .inv .1, q .pre .0 .few),
+      λ k h. omega (arith, below i k h, l .inv .2, q .pre .0 .few),
     )
 
 slice-aggregate-narrow-rows : tie.Need-slice-aggregate-narrow-rows Inv-loop μ-loop
@@ -82,8 +82,8 @@ narrow-rows-requires c κs =
     let l = turn i .loop in
     let q = start i in (
       g .group-rows .ensures .led,
-      λ k h. omega (arith, below i k h, g .group-rows .kept .1 .1 .1 .1 .0, l .inv .1, q .pre .0),
-      λ k h. omega (arith, below i k h, l .inv .3, q .pre .3),
+      λ k h. omega (arith, below i k h, g .group-rows .kept .1 .1 .1 .1 .0, l .inv .1, q .pre .0 .few),
+      λ k h. omega (arith, below i k h, l .inv .3, q .pre .1),
     )
 
 add-c : tie.Need-add-c Inv-loop μ-loop
@@ -104,7 +104,7 @@ loop-again c =
       g .group-rows .kept .1 .1 .1 .1 .0 ∙ l .inv .1,
       g .group-rows .kept .1 .1 .1 .1 .1 .0 ∙ l .inv .2,
       n .narrow-rows .kept .1 .1 .1 .0 ∙ l .inv .3,
-      narrowed-turn (s .width) (s .n) (s .cells .now) (s .columns .now) (s .neighbours .now) (q .pre .0) (q .pre .1) (q .pre .2)
+      narrowed-turn (s .width) (s .n) (s .cells .now) (s .columns .now) (s .neighbours .now) (q .pre .0 .few) (q .pre .0 .fits) (q .pre .0 .filled)
           (l .c) _ _ _ (l .neighbours) _ (i .loop-test .taken) refl (g .group-rows .ensures) (n .narrow-rows .ensures) (l .inv .4),
     )
 
@@ -116,7 +116,7 @@ returns c =
     let l = c .before .loop in
     let q = c .before .before .before .before .before in
     let s = q .args in
-    narrowed-end (s .width) (s .n) (s .cells .now) (s .columns .now) (s .neighbours .now) (q .pre .0) (q .pre .1) (q .pre .2)
+    narrowed-end (s .width) (s .n) (s .cells .now) (s .columns .now) (s .neighbours .now) (q .pre .0 .few) (q .pre .0 .fits) (q .pre .0 .filled)
     (l .c) (l .neighbours) (search needs) (l .inv .4)
 
 pub narrow-columns-spec : {M : Type 1} → statement M

@@ -9,7 +9,7 @@ use lib.Count.{trailingZeros, trailing-le}
 use lib.ListN.{length, length-set, getD}
 use Rattle.bitsets.specs.Bits.{has}
 use Rattle.bitsets.proofs.Bits.{Lowest, trailing-lowest, digit-below}
-use Rattle.fusing.specs.Groups.{cellIn}
+use Rattle.fusing.specs.Groups.{cellAt}
 use Rattle.fusing.proofs.Grouping.{Grouping, group-start, marked-filled, next-unmarked, group-new, group-more, group-end}
 use Rattle.fusing.proofs.groups.group_rows.Statement.{statement}
 use Rattle.fusing.proofs.groups.group_rows.Tie as tie
@@ -17,7 +17,7 @@ use Rattle.fusing.proofs.groups.group_rows.Tie as tie
 abbrev Inv-loop : tie.InvT-loop
 Inv-loop cells width c filled leaders₀ equal₀ marks₀ rest₀ leaders equal marks rest =
     (rest < 2 ^ 64) × (length leaders ≡ length leaders₀) × (length equal ≡ length equal₀) × (length marks ≡ 16)
-    × Grouping (cellIn width cells c) filled rest marks leaders equal
+    × Grouping (cellAt width cells c) filled rest marks leaders equal
 
 abbrev μ-loop : tie.MeasureT-loop
 μ-loop cells width c filled leaders₀ equal₀ marks₀ rest₀ leaders equal marks rest = rest
@@ -35,7 +35,7 @@ module _ (c : tie.In-loop Inv-loop μ-loop) where
   row = trailingZeros 64 (turn .loop .rest)
 
   abbrev cell : ℕ → ℕ
-  cell = cellIn (start .args .width) (start .args .cells .now) (start .args .c)
+  cell = cellAt (start .args .width) (start .args .cells .now) (start .args .c)
 
   -- the row is the lowest of the rest, and one of the column
   lowest-of : Lowest (turn .loop .rest) row
@@ -73,7 +73,7 @@ led-room c = marked-room (c .before .before .before) (c .before .leader .result)
 loop-holds : tie.Need-loop-holds Inv-loop μ-loop
 loop-holds c =
     let a = c .before .before .before .args in
-    (search needs, refl, refl, search needs, group-start (cellIn (a .width) (a .cells .now) (a .c)) (a .filled) (a .leaders .now) (a .equal .now))
+    (search needs, refl, refl, search needs, group-start (cellAt (a .width) (a .cells .now) (a .c)) (a .filled) (a .leaders .now) (a .equal .now))
 
 cast-j : tie.Need-cast-j Inv-loop μ-loop
 cast-j c = omega (arith, trailing-le 64 (c .before .loop .rest))
@@ -199,7 +199,7 @@ returns c =
     let l = c .before .loop in
     let q = c .before .before .before .before .before in
     let s = q .args in
-    group-end (cellIn (s .width) (s .cells .now) (s .c)) (s .filled) (l .rest) (l .marks) (l .leaders) (l .equal) (c .loop-test .left)
+    group-end (cellAt (s .width) (s .cells .now) (s .c)) (s .filled) (l .rest) (l .marks) (l .leaders) (l .equal) (c .loop-test .left)
     (λ k h. omega (arith, q .pre .2 k h, l .inv .2)) (l .inv .4)
 
 pub group-rows-spec : {M : Type 1} → statement M

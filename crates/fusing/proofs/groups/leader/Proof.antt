@@ -6,13 +6,13 @@ use lib.Bits.{and-le-r}
 use lib.Count.{trailingZeros, trailing-le}
 use lib.ListN.{length}
 use Rattle.bitsets.proofs.Bits.{Lowest, trailing-lowest}
-use Rattle.fusing.specs.Groups.{cellIn}
+use Rattle.fusing.specs.Groups.{cellAt}
 use Rattle.fusing.proofs.Grouping.{Seeking, seek-start, seek-turn, seek-found, seek-none}
 use Rattle.fusing.proofs.groups.leader.Statement.{statement}
 use Rattle.fusing.proofs.groups.leader.Tie as tie
 
 abbrev Inv-loop : tie.InvT-loop
-Inv-loop cells width c cell rows j rest₀ rest = (rest < 2 ^ 64) × Seeking (cellIn width cells c) cell rows rest
+Inv-loop cells width c cell rows j rest₀ rest = (rest < 2 ^ 64) × Seeking (cellAt width cells c) cell rows rest
 
 abbrev μ-loop : tie.MeasureT-loop
 μ-loop cells width c cell rows j rest₀ rest = rest
@@ -38,7 +38,7 @@ module _ (c : tie.In-loop Inv-loop μ-loop) where
 loop-holds : tie.Need-loop-holds Inv-loop μ-loop
 loop-holds c =
     let a = c .args in
-    (search needs, seek-start (cellIn (a .width) (a .cells .now) (a .c)) (a .cell) (a .rows))
+    (search needs, seek-start (cellAt (a .width) (a .cells .now) (a .c)) (a .cell) (a .rows))
 
 cast-k : tie.Need-cast-k Inv-loop μ-loop
 cast-k c = omega (arith, trailing-le 64 (c .before .loop .rest))
@@ -61,7 +61,7 @@ returns c =
     let l = turn i .loop in
     let q = start i in
     let s = q .args in
-    seek-found (cellIn (s .width) (s .cells .now) (s .c)) (s .cell) (s .rows) (s .j) (l .rest) (row i) (q .pre .1) (lowest-of i) (c .if1 .taken) (l .inv .1)
+    seek-found (cellAt (s .width) (s .cells .now) (s .c)) (s .cell) (s .rows) (s .j) (l .rest) (row i) (q .pre .1) (lowest-of i) (c .if1 .taken) (l .inv .1)
 
 sub-rest : tie.Need-sub-rest Inv-loop μ-loop
 sub-rest c = search needs
@@ -77,14 +77,14 @@ loop-again c =
     let l = turn i .loop in
     let s = start i .args in (
       omega (arith, and-le-r (l .rest) (l .rest - 1), l .inv .0),
-      seek-turn (cellIn (s .width) (s .cells .now) (s .c)) (s .cell) (s .rows) (l .rest) (row i) (lowest-of i) (c .if1 .left) (l .inv .1),
+      seek-turn (cellAt (s .width) (s .cells .now) (s .c)) (s .cell) (s .rows) (l .rest) (row i) (lowest-of i) (c .if1 .left) (l .inv .1),
     )
 
 returns-2 : tie.Need-returns-2 Inv-loop μ-loop
 returns-2 c =
     let a = c .before .before .args in
     let l = c .before .loop in
-    seek-none (cellIn (a .width) (a .cells .now) (a .c)) (a .cell) (a .rows) (a .j) (l .rest) (c .loop-test .left) (l .inv .1)
+    seek-none (cellAt (a .width) (a .cells .now) (a .c)) (a .cell) (a .rows) (a .j) (l .rest) (c .loop-test .left) (l .inv .1)
 
 pub leader-spec : {M : Type 1} → statement M
 leader-spec =

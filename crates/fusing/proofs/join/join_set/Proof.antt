@@ -1,4 +1,4 @@
--- `join_set` meets its contract. The loop's invariant: the first i cells of the row stand in their places.
+-- `join_set` meets its contract. The loop's invariant: the first i cells of the row stand in their positions.
 use mathlib.Core.List.{List}
 use borrow.Author.Needs.{needs}
 use mathlib.Core.Path.{_≡_, refl, sym, _∙_}

@@ -5,20 +5,22 @@ use mathlib.Core.List.{flatten}
 use Prim.Native.Nat.{_-_, _*_, _≤_}
 use native.Mathlib.Nat.{zero-mul, add-mul, one-mul}
 use native.Mathlib.Omega.{arith}
+use lib.ListN.{length}
 use Rattle.definitions.specs.Image.{rowsIn}
 use Rattle.lists.proofs.Pastes.{Pasted}
 use Rattle.lists.proofs.Flat.{row-fits}
 use Rattle.fusing.proofs.FilledRows.{columns-within}
-use Rattle.fusing.proofs.Joins.{joinedRows, joins-none, joins-turn, joins-end}
+use Rattle.fusing.specs.Fused.{joinedRows}
+use Rattle.fusing.proofs.Joins.{joins-none, joins-turn, joins-end}
 use Rattle.fusing.proofs.join.join_sets.Statement.{statement}
 use Rattle.fusing.proofs.join.join_sets.Tie as tie
 
 abbrev Inv-loop : tie.InvT-loop
-Inv-loop cells n width columns sets count out₀ k₀ at₀ out k at =
-    (k ≤ count) × (at ≡ k * width) × Pasted out₀ 0 (flatten (joinedRows (rowsIn width n cells))) (k * width) out
+Inv-loop cells n width columns sets out₀ k₀ at₀ out k at =
+    (k ≤ length sets) × (at ≡ k * width) × Pasted out₀ 0 (flatten (joinedRows (rowsIn width n cells))) (k * width) out
 
 abbrev μ-loop : tie.MeasureT-loop
-μ-loop cells n width columns sets count out₀ k₀ at₀ out k at = count - k
+μ-loop cells n width columns sets out₀ k₀ at₀ out k at = length sets - k
 
 loop-holds : tie.Need-loop-holds Inv-loop μ-loop
 loop-holds c =
@@ -26,8 +28,7 @@ loop-holds c =
     let a = s .args in (
       search needs,
       sym (zero-mul (a .width)),
-      joins-none (a .width) (a .n) (a .count) (a .cells .now) (a .columns .now) (a .sets .now) (a .out .now)
-          (s .pre .0) (s .pre .1) (s .pre .2) (s .pre .3) (s .pre .4),
+      joins-none (s .pre .0) (s .pre .1) (a .out .now) (s .pre .2),
     )
 
 mul-join-set : tie.Need-mul-join-set Inv-loop μ-loop
@@ -41,16 +42,16 @@ join-set-requires c κs =
     let s = c .before .before .before .before .before .before .before .before in
     let a = s .args in
     let l = c .before .before .before .loop in (
-      s .pre .1 .size,
-      columns-within (a .width) (a .n) (a .cells .now) (a .columns .now) (s .pre .0) (s .pre .1),
-      omega (arith, l .inv .2 .size, l .inv .1, s .pre .4, row-fits (a .width) (a .count) (l .k) (search needs)),
+      s .pre .0 .filled .size,
+      columns-within (a .width) (a .n) (a .cells .now) (a .columns .now) (s .pre .0 .fits) (s .pre .0 .filled),
+      omega (arith, l .inv .2 .size, l .inv .1, s .pre .2, row-fits (a .width) (length (a .sets .now)) (l .k) (search needs)),
     )
 
 add-at : tie.Need-add-at Inv-loop μ-loop
 add-at c =
     let s = c .before .before .before .before .before .before .before .before .before .before .before in
     let l = c .before .before .before .before .before .before .loop in
-    omega (arith, l .inv .1, s .pre .4, row-fits (s .args .width) (s .args .count) (l .k) (search needs))
+    omega (arith, l .inv .1, s .pre .2, row-fits (s .args .width) (length (s .args .sets .now)) (l .k) (search needs))
 
 add-k : tie.Need-add-k Inv-loop μ-loop
 add-k c = search needs
@@ -66,9 +67,8 @@ loop-again c =
     let j = c .before .before .join-set in (
       search needs,
       omega (arith, l .inv .1, add-mul (l .k) 1 (a .width), one-mul (a .width)),
-      joins-turn (a .width) (a .n) (a .count) (a .cells .now) (a .columns .now) (a .sets .now) (a .out .now)
-          (s .pre .0) (s .pre .1) (s .pre .2) (s .pre .3) (s .pre .4)
-          (l .k) (l .at) (l .out) _ (search needs) (l .inv .1) (l .inv .2) (j .ensures),
+      joins-turn (s .pre .0) (s .pre .1) (a .out .now) (s .pre .2) (l .k) (l .at) (l .out) _ (search needs) (l .inv .1) (l .inv .2)
+          (j .ensures),
     )
 
 same-length : tie.Need-same-length Inv-loop μ-loop
@@ -79,9 +79,7 @@ returns c =
     let s = c .before .before .before .before .before .before in
     let a = s .args in
     let l = c .before .loop in
-    joins-end (a .width) (a .n) (a .count) (a .cells .now) (a .columns .now) (a .sets .now) (a .out .now)
-    (s .pre .0) (s .pre .1) (s .pre .2) (s .pre .3) (s .pre .4)
-    (l .k) (l .out) (omega arith) (l .inv .2)
+    joins-end (s .pre .0) (s .pre .1) (a .out .now) (s .pre .2) (l .k) (l .out) (search needs) (l .inv .2)
 
 pub join-sets-spec : {M : Type 1} → statement M
 join-sets-spec =

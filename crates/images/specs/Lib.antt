@@ -1,0 +1,2 @@
+-- Words of the contracts on the writing of images.
+pub mod Writing

@@ -1,0 +1,35 @@
+-- What the writing of an image asks for, and what it leaves.
+use mathlib.Core.Path.{_≡_}
+use mathlib.Core.List.{List, _∷_, _++_, flatten}
+use Prim.Native.Nat.{ℕ, _+_, _*_, _^_, _≤_, _<_}
+use lib.ListN.{length, getD, take, drop}
+use Rattle.definitions.specs.Limits.{maxColumns, maxSets}
+use Rattle.definitions.specs.Image.{imageOf}
+use Rattle.definitions.specs.MinimumUnion.{filled}
+use Rattle.definitions.specs.Answer.{done, unless}
+use Rattle.definitions.specs.Calls.{tableRoom}
+use Rattle.definitions.specs.Promise.{TablePromise}
+use Rattle.rows.specs.Numbers.{rowsAt, Fit}
+use Rattle.images.specs.declared.write.Put.{Put}
+
+-- n ids, and m indices of rows of n cells, that an image can hold
+pub record Writable (ids : List ℕ) (n : ℕ) (cells order : List ℕ) (m : ℕ) : Type 0 where
+  pub short : n ≤ length ids
+  pub few-columns : n ≤ maxColumns
+  pub small : (k : ℕ) → k < n → getD ids k 0 < 2 ^ 16
+  pub few-rows : m ≤ maxSets
+  pub within : m ≤ length order
+  pub fit : Fit n (length cells) (take m order)
+
+-- the image of these rows stands over the front of what was found, and so many of their cells are filled
+pub record WrittenImage (ids : List ℕ) (n : ℕ) (cells order : List ℕ) (m : ℕ) (found after : List ℕ) (f : ℕ) : Type 0 where
+  pub words : after ≡ imageOf (take n ids) (rowsAt n cells (take m order)) ++ drop (1 + n + m * n) found
+  pub count : f ≡ filled (flatten (rowsAt n cells (take m order)))
+
+-- what question 10 leaves of a call whose result is this image, with whatever values its answer carries beyond the counts
+pub record PutImage (ids : List ℕ) (rows : List (List ℕ)) (m : ℕ) (found : List ℕ) (r : Put) (after : List ℕ) : Type 0 where
+  pub promise : (more : List ℕ)
+      → TablePromise
+      (tableRoom (imageOf ids rows) (length found) (done (length rows ∷ length (imageOf ids rows) ∷ filled (flatten rows) ∷ more)))
+      (imageOf ids rows) found
+      (unless (r .number) 2 (done (m ∷ r .words ∷ r .filled ∷ more))) after

@@ -1,0 +1,3 @@
+-- Laws of the set list that is written.
+pub mod Records
+pub mod Written

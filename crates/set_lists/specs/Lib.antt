@@ -1,0 +1,2 @@
+-- Words of the contracts on set lists.
+pub mod Records
