@@ -15,6 +15,7 @@ pub mod Reading
 pub mod Statements
 pub mod Demand3
 pub mod Promise
+pub mod CInterface
 pub mod Text
 pub mod Listing
 pub mod Program

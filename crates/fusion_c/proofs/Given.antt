@@ -1,14 +1,18 @@
--- What is given for what an answer says is what is promised for the call's outcome. Assumes nothing.
-use mathlib.Core.Path.{_≡_, _∙_, ap}
+-- What an answer says is promised of it, and its words are put. Assumes nothing.
+use mathlib.Core.Path.{_≡_, _∙_, subst}
 use mathlib.Core.List.{List}
 use Prim.Native.Nat.{ℕ}
+use lib.ListN.{getD}
 use Rattle.definitions.specs.Answer.{Outcome}
-use Rattle.fusion_c.specs.CInterface.{numberOf, putOver}
+use Rattle.definitions.specs.CInterface.{numberOf, Answered}
+use Rattle.fusion_c.specs.Words.{PutWords}
 
--- the number, and the words put over the front of a buffer
-module _ {said outcome : Outcome} (e : said ≡ outcome) where
-  pub number-given : {r : ℕ} → r ≡ numberOf said → r ≡ numberOf outcome
-  number-given n = n ∙ ap numberOf e
-
-  pub words-given : (words : Outcome → List ℕ) (found : List ℕ) {left : List ℕ} → left ≡ putOver (words said) found → left ≡ putOver (words outcome) found
-  words-given words found w = w ∙ ap (λ (o : Outcome). putOver (words o) found) e
+pub answered : (P : Outcome → Type 0) (words : Outcome → List ℕ) {said answer : Outcome} {found after : List ℕ} {r : ℕ}
+    → P said → said ≡ answer → getD (words answer) 0 0 ≡ numberOf answer → PutWords (words answer) found r after
+    → Answered P words found r after
+answered P words {answer = answer} p e first put = record {
+  answer = answer;
+  promise = subst P e p;
+  returns = put .first ∙ first;
+  puts = put .puts;
+}

@@ -6,7 +6,7 @@ use native.Mathlib.Nat.{zero-add}
 use native.Mathlib.Omega.{arith}
 use lib.ListN.{length, take, drop, drop-of-length-le}
 use lib.Seq.{paste, take-all, drop-length}
-use Rattle.fusion_c.specs.CInterface.{putOver}
+use Rattle.definitions.specs.CInterface.{putOver}
 
 -- a buffer that is too short takes what fits
 pub put-some : (words found : List ℕ) → length found ≤ length words → paste found 0 words (length found) ≡ putOver words found

@@ -1,2 +1,2 @@
--- Words of the contracts of the C interface.
-pub mod CInterface
+-- Words of the contracts on the answer buffer.
+pub mod Words

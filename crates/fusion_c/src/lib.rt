@@ -1,14 +1,9 @@
 // The C interface of the three unions. A slice is a pointer and a length in C. Each call returns the number of its refusal, 0 for done,
-// and puts the eight words of its answer into `answer`, as far as they fit.
+// and puts the words of its answer into `answer`, as far as they fit.
 mod answers;
 
-ghost use mathlib.Core.Path.{_≡_};
-ghost use lib.ListN.{length};
-ghost use Rattle.definitions.specs.OuterUnion.{unionRows};
-ghost use Rattle.definitions.specs.SetList.{setList};
-ghost use Rattle.definitions.specs.Answer.{afterwards};
-ghost use Rattle.definitions.specs.Calls.{outerImage, minimumImage, fusedImage, outerOutcome, minimumOutcome, complementOutcome};
-ghost use Rattle.fusion_c.specs.CInterface.{numberOf, outerWords, minimumWords, complementWords, putOver};
+ghost use Rattle.definitions.specs.Promise.{OuterPromise, MinimumPromise, ComplementPromise};
+ghost use Rattle.definitions.specs.CInterface.{outerWords, minimumWords, complementWords, Answered};
 use crate::answers::put_refusal;
 use crate::answers::put_words;
 use definitions::ComplementAnswer;
@@ -22,9 +17,9 @@ pub extern "C" fn fusion_outer_union(
     table: &mut [u32],
     answer: &mut [u32],
 ) -> u32
-    ensures returns { λ r. ⌜ r ≡ numberOf (outerOutcome (now (first .entry)) (now (second .entry)) (length (now (table .entry)))) ⌝ }
-    ensures writes { λ r. ⌜ now (table .exit) ≡ afterwards (outerOutcome (now (first .entry)) (now (second .entry)) (length (now (table .entry)))) (outerImage (now (first .entry)) (now (second .entry))) (now (table .entry)) ⌝ }
-    ensures answers { λ r. ⌜ now (answer .exit) ≡ putOver (outerWords (outerOutcome (now (first .entry)) (now (second .entry)) (length (now (table .entry))))) (now (answer .entry)) ⌝ }
+    ensures { λ r. ⌜ Answered
+        (λ o. OuterPromise (now (first .entry)) (now (second .entry)) (now (table .entry)) o (now (table .exit)))
+        outerWords (now (answer .entry)) r (now (answer .exit)) ⌝ }
 {
     match unions::outer_union(first, second, table) {
         OuterAnswer::Done {
@@ -32,10 +27,10 @@ pub extern "C" fn fusion_outer_union(
             words,
             filled,
         } => put_words(
+            &[0, 0, rows as u32, words as u32, filled as u32, 0, 0, 0, 0],
             answer,
-            &[0, 0, rows as u32, words as u32, filled as u32, 0, 0, 0],
         ),
-        OuterAnswer::Refused { number, table } => put_refusal(answer, number, table),
+        OuterAnswer::Refused { number, table } => put_refusal(number, table, answer),
     }
 }
 
@@ -46,9 +41,9 @@ pub extern "C" fn fusion_minimum_union(
     table: &mut [u32],
     answer: &mut [u32],
 ) -> u32
-    ensures returns { λ r. ⌜ r ≡ numberOf (minimumOutcome (now (first .entry)) (now (second .entry)) (length (now (table .entry)))) ⌝ }
-    ensures writes { λ r. ⌜ now (table .exit) ≡ afterwards (minimumOutcome (now (first .entry)) (now (second .entry)) (length (now (table .entry)))) (minimumImage (now (first .entry)) (now (second .entry))) (now (table .entry)) ⌝ }
-    ensures answers { λ r. ⌜ now (answer .exit) ≡ putOver (minimumWords (minimumOutcome (now (first .entry)) (now (second .entry)) (length (now (table .entry))))) (now (answer .entry)) ⌝ }
+    ensures { λ r. ⌜ Answered
+        (λ o. MinimumPromise (now (first .entry)) (now (second .entry)) (now (table .entry)) o (now (table .exit)))
+        minimumWords (now (answer .entry)) r (now (answer .exit)) ⌝ }
 {
     match unions::minimum_union(first, second, table) {
         MinimumAnswer::Done {
@@ -57,7 +52,6 @@ pub extern "C" fn fusion_minimum_union(
             filled,
             pairs,
         } => put_words(
-            answer,
             &[
                 0,
                 0,
@@ -67,9 +61,11 @@ pub extern "C" fn fusion_minimum_union(
                 pairs as u32,
                 0,
                 0,
+                0,
             ],
+            answer,
         ),
-        MinimumAnswer::Refused { number, table } => put_refusal(answer, number, table),
+        MinimumAnswer::Refused { number, table } => put_refusal(number, table, answer),
     }
 }
 
@@ -81,10 +77,10 @@ pub extern "C" fn fusion_complement_union(
     sets: &mut [u32],
     answer: &mut [u32],
 ) -> u32
-    ensures returns { λ r. ⌜ r ≡ numberOf (complementOutcome (now (first .entry)) (now (second .entry)) (length (now (table .entry))) (length (now (sets .entry)))) ⌝ }
-    ensures writes { λ r. ⌜ now (table .exit) ≡ afterwards (complementOutcome (now (first .entry)) (now (second .entry)) (length (now (table .entry))) (length (now (sets .entry)))) (fusedImage (now (first .entry)) (now (second .entry))) (now (table .entry)) ⌝ }
-    ensures lists { λ r. ⌜ now (sets .exit) ≡ afterwards (complementOutcome (now (first .entry)) (now (second .entry)) (length (now (table .entry))) (length (now (sets .entry)))) (setList (unionRows (now (first .entry)) (now (second .entry)))) (now (sets .entry)) ⌝ }
-    ensures answers { λ r. ⌜ now (answer .exit) ≡ putOver (complementWords (complementOutcome (now (first .entry)) (now (second .entry)) (length (now (table .entry))) (length (now (sets .entry))))) (now (answer .entry)) ⌝ }
+    ensures { λ r. ⌜ Answered
+        (λ o. ComplementPromise (now (first .entry)) (now (second .entry)) (now (table .entry)) (now (sets .entry)) o
+        (now (table .exit)) (now (sets .exit)))
+        complementWords (now (answer .entry)) r (now (answer .exit)) ⌝ }
 {
     match unions::complement_union(first, second, table, sets) {
         ComplementAnswer::Done {
@@ -94,7 +90,6 @@ pub extern "C" fn fusion_complement_union(
             sets,
             set_words,
         } => put_words(
-            answer,
             &[
                 0,
                 0,
@@ -104,8 +99,10 @@ pub extern "C" fn fusion_complement_union(
                 0,
                 sets as u32,
                 set_words as u32,
+                0,
             ],
+            answer,
         ),
-        ComplementAnswer::Refused { number, table } => put_refusal(answer, number, table),
+        ComplementAnswer::Refused { number, table } => put_refusal(number, table, answer),
     }
 }

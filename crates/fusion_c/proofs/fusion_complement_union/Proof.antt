@@ -1,13 +1,13 @@
 -- `fusion_complement_union` gives the answer of `complement_union` as words: its counts fit them.
-use mathlib.Core.Path.{sym, _∙_, ap}
+use mathlib.Core.Path.{refl, sym, _∙_, ap}
 use mathlib.Core.List.{List, [], _∷_}
 use Prim.Native.Nat.{ℕ}
 use lib.ListN.{length}
 use borrow.Author.Needs.{needs}
 use Rattle.definitions.specs.Answer.{complementSays}
-use Rattle.fusion_c.specs.CInterface.{complementWords}
+use Rattle.definitions.specs.CInterface.{complementWords}
 use Rattle.fusion_c.proofs.Bounds.{FitWords, complement-fits}
-use Rattle.fusion_c.proofs.Given.{number-given, words-given}
+use Rattle.fusion_c.proofs.Given.{answered}
 use Rattle.fusion_c.proofs.fusion_complement_union.Statement.{statement}
 use Rattle.fusion_c.proofs.fusion_complement_union.Tie as tie
 
@@ -34,7 +34,7 @@ fits : (c : tie.After-put-words-arg) → FitWords (counts c)
 fits c =
     let k = c .before .before .before .before in
     let s = start k .args in
-    let said = call k .complement-union .ensures .0 in
+    let said = call k .complement-union .ensures .answers in
     complement-fits (s .first .now) (s .second .now) (length (s .table .now)) (length (s .sets .now)) _
     (sym said ∙ ap complementSays (c .before .before .rows .given .1))
 
@@ -75,10 +75,8 @@ returns : tie.Need-returns
 returns c =
     let p = c .before .before .put-words in
     let arm = c .before .before .before .before .before .before in
-    let k = arm .before .before in
-    let u = call k .complement-union in
-    let e = sym (ap complementSays (arm .rows .given .1)) ∙ u .ensures .0 in
-    (number-given e (p .ensures .0), (u .ensures .1 .0, (u .ensures .1 .1 .0, words-given e complementWords (start k .args .answer .now) (p .ensures .1))))
+    let u = call (arm .before .before) .complement-union in
+    answered _ complementWords (u .ensures) (ap complementSays (arm .rows .given .1)) refl (p .ensures)
 
 same-length-4 : tie.Need-same-length-4
 same-length-4 c = search needs
@@ -93,10 +91,8 @@ returns-2 : tie.Need-returns-2
 returns-2 c =
     let p = c .before .before .put-refusal in
     let arm = c .before .before .before .before .before in
-    let k = arm .before .before in
-    let u = call k .complement-union in
-    let e = sym (ap complementSays (arm .number .given .1)) ∙ u .ensures .0 in
-    (number-given e (p .ensures .0), (u .ensures .1 .0, (u .ensures .1 .1 .0, words-given e complementWords (start k .args .answer .now) (p .ensures .1))))
+    let u = call (arm .before .before) .complement-union in
+    answered _ complementWords (u .ensures) (ap complementSays (arm .number .given .1)) refl (p .ensures)
 
 pub fusion-complement-union-spec : {M : Type 1} → statement M
 fusion-complement-union-spec =

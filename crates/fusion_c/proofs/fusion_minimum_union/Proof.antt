@@ -1,13 +1,13 @@
 -- `fusion_minimum_union` gives the answer of `minimum_union` as words: its counts fit them.
-use mathlib.Core.Path.{sym, _∙_, ap}
+use mathlib.Core.Path.{refl, sym, _∙_, ap}
 use mathlib.Core.List.{List, [], _∷_}
 use Prim.Native.Nat.{ℕ}
 use lib.ListN.{length}
 use borrow.Author.Needs.{needs}
 use Rattle.definitions.specs.Answer.{minimumSays}
-use Rattle.fusion_c.specs.CInterface.{minimumWords}
+use Rattle.definitions.specs.CInterface.{minimumWords}
 use Rattle.fusion_c.proofs.Bounds.{FitWords, minimum-fits}
-use Rattle.fusion_c.proofs.Given.{number-given, words-given}
+use Rattle.fusion_c.proofs.Given.{answered}
 use Rattle.fusion_c.proofs.fusion_minimum_union.Statement.{statement}
 use Rattle.fusion_c.proofs.fusion_minimum_union.Tie as tie
 
@@ -34,7 +34,7 @@ fits : (c : tie.After-put-words-arg) → FitWords (counts c)
 fits c =
     let k = c .before .before .before .before in
     let s = start k .args in
-    let said = call k .minimum-union .ensures .0 in
+    let said = call k .minimum-union .ensures .answers in
     minimum-fits (s .first .now) (s .second .now) (length (s .table .now)) _ (sym said ∙ ap minimumSays (c .before .before .rows .given .1))
 
 cast-t18 : tie.Need-cast-t18
@@ -68,10 +68,8 @@ returns : tie.Need-returns
 returns c =
     let p = c .before .before .put-words in
     let arm = c .before .before .before .before .before .before in
-    let k = arm .before .before in
-    let u = call k .minimum-union in
-    let e = sym (ap minimumSays (arm .rows .given .1)) ∙ u .ensures .0 in
-    (number-given e (p .ensures .0), (u .ensures .1, words-given e minimumWords (start k .args .answer .now) (p .ensures .1)))
+    let u = call (arm .before .before) .minimum-union in
+    answered _ minimumWords (u .ensures) (ap minimumSays (arm .rows .given .1)) refl (p .ensures)
 
 same-length-3 : tie.Need-same-length-3
 same-length-3 c = search needs
@@ -83,10 +81,8 @@ returns-2 : tie.Need-returns-2
 returns-2 c =
     let p = c .before .before .put-refusal in
     let arm = c .before .before .before .before .before in
-    let k = arm .before .before in
-    let u = call k .minimum-union in
-    let e = sym (ap minimumSays (arm .number .given .1)) ∙ u .ensures .0 in
-    (number-given e (p .ensures .0), (u .ensures .1, words-given e minimumWords (start k .args .answer .now) (p .ensures .1)))
+    let u = call (arm .before .before) .minimum-union in
+    answered _ minimumWords (u .ensures) (ap minimumSays (arm .number .given .1)) refl (p .ensures)
 
 pub fusion-minimum-union-spec : {M : Type 1} → statement M
 fusion-minimum-union-spec =

@@ -1,13 +1,13 @@
 -- `fusion_outer_union` gives the answer of `outer_union` as words: its counts fit them.
-use mathlib.Core.Path.{sym, _∙_, ap}
+use mathlib.Core.Path.{refl, sym, _∙_, ap}
 use mathlib.Core.List.{List, [], _∷_}
 use Prim.Native.Nat.{ℕ}
 use lib.ListN.{length}
 use borrow.Author.Needs.{needs}
 use Rattle.definitions.specs.Answer.{outerSays}
-use Rattle.fusion_c.specs.CInterface.{outerWords}
+use Rattle.definitions.specs.CInterface.{outerWords}
 use Rattle.fusion_c.proofs.Bounds.{FitWords, outer-fits}
-use Rattle.fusion_c.proofs.Given.{number-given, words-given}
+use Rattle.fusion_c.proofs.Given.{answered}
 use Rattle.fusion_c.proofs.fusion_outer_union.Statement.{statement}
 use Rattle.fusion_c.proofs.fusion_outer_union.Tie as tie
 
@@ -34,7 +34,7 @@ fits : (c : tie.After-put-words-arg) → FitWords (counts c)
 fits c =
     let k = c .before .before .before .before in
     let s = start k .args in
-    let said = call k .outer-union .ensures .0 in
+    let said = call k .outer-union .ensures .answers in
     outer-fits (s .first .now) (s .second .now) (length (s .table .now)) _ (sym said ∙ ap outerSays (c .before .before .rows .given .1))
 
 cast-t17 : tie.Need-cast-t17
@@ -65,10 +65,8 @@ returns : tie.Need-returns
 returns c =
     let p = c .before .before .put-words in
     let arm = c .before .before .before .before .before .before in
-    let k = arm .before .before in
-    let u = call k .outer-union in
-    let e = sym (ap outerSays (arm .rows .given .1)) ∙ u .ensures .0 in
-    (number-given e (p .ensures .0), (u .ensures .1, words-given e outerWords (start k .args .answer .now) (p .ensures .1)))
+    let u = call (arm .before .before) .outer-union in
+    answered _ outerWords (u .ensures) (ap outerSays (arm .rows .given .1)) refl (p .ensures)
 
 same-length-3 : tie.Need-same-length-3
 same-length-3 c = search needs
@@ -80,10 +78,8 @@ returns-2 : tie.Need-returns-2
 returns-2 c =
     let p = c .before .before .put-refusal in
     let arm = c .before .before .before .before .before in
-    let k = arm .before .before in
-    let u = call k .outer-union in
-    let e = sym (ap outerSays (arm .number .given .1)) ∙ u .ensures .0 in
-    (number-given e (p .ensures .0), (u .ensures .1, words-given e outerWords (start k .args .answer .now) (p .ensures .1)))
+    let u = call (arm .before .before) .outer-union in
+    answered _ outerWords (u .ensures) (ap outerSays (arm .number .given .1)) refl (p .ensures)
 
 pub fusion-outer-union-spec : {M : Type 1} → statement M
 fusion-outer-union-spec =

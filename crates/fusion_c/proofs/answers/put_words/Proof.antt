@@ -1,4 +1,4 @@
--- `put_words` pastes as many words as fit: all eight, or the length of the buffer.
+-- `put_words` pastes as many words as fit: all nine, or the length of the buffer.
 use mathlib.Core.Path.{refl, _∙_}
 use native.Mathlib.Omega.{arith}
 use borrow.Author.Needs.{needs}
@@ -18,7 +18,7 @@ same-length c = search needs
 returns : tie.Need-returns
 returns c =
     let a = c .before .before .before .before .before .before .before .before .args in
-    (refl, c .before .before .before .write-words .ensures ∙ put-some (a .words .now) (a .answer .now) (omega arith))
+    record { first = refl; puts = c .before .before .before .write-words .ensures ∙ put-some (a .words .now) (a .answer .now) (omega arith) }
 
 write-words-requires-2 : tie.Need-write-words-requires-2
 write-words-requires-2 c κs = search needs
@@ -32,7 +32,7 @@ same-length-2 c = search needs
 returns-2 : tie.Need-returns-2
 returns-2 c =
     let a = c .before .before .before .before .before .before .before .before .args in
-    (refl, c .before .before .before .write-words2 .ensures ∙ put-all (a .words .now) (a .answer .now) 8 (search needs) (search needs))
+    record { first = refl; puts = c .before .before .before .write-words2 .ensures ∙ put-all (a .words .now) (a .answer .now) 9 (search needs) (search needs) }
 
 pub put-words-spec : {M : Type 1} → statement M
 put-words-spec =
