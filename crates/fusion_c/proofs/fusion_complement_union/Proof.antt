@@ -26,32 +26,32 @@ module _ (c : tie.After-slice-known5) where
   start = call .before .before .before .before .before .before .before .before
 
 -- the counts of a done answer
-abbrev counts : tie.After-put-words-arg → List ℕ
-counts c = let v = c .before .before .rows .given .0 in v .0 ∷ v .1 .0 ∷ v .1 .1 .0 ∷ v .1 .1 .1 .0 ∷ v .1 .1 .1 .1 .0 ∷ []
+abbrev counts : tie.After-known-told → List ℕ
+counts c = let v = c .before .rows .given .0 in v .0 ∷ v .1 .0 ∷ v .1 .1 .0 ∷ v .1 .1 .1 .0 ∷ v .1 .1 .1 .1 .0 ∷ []
 
 -- they fit words of 32 bits
-fits : (c : tie.After-put-words-arg) → FitWords (counts c)
+fits : (c : tie.After-known-told) → FitWords (counts c)
 fits c =
-    let k = c .before .before .before .before in
+    let k = c .before .before .before in
     let s = start k .args in
     let said = call k .complement-union .ensures .answers in
     complement-fits (s .first .now) (s .second .now) (length (s .table .now)) (length (s .sets .now)) _
-    (sym said ∙ ap complementSays (c .before .before .rows .given .1))
+    (sym said ∙ ap complementSays (c .before .rows .given .1))
+
+cast-t20 : tie.Need-cast-t20
+cast-t20 c = let w = fits c .0 in search needs
+
+cast-t21 : tie.Need-cast-t21
+cast-t21 c = let w = fits c .1 .0 in search needs
 
 cast-t22 : tie.Need-cast-t22
-cast-t22 c = let w = fits c .0 in search needs
+cast-t22 c = let w = fits c .1 .1 .0 in search needs
 
 cast-t23 : tie.Need-cast-t23
-cast-t23 c = let w = fits c .1 .0 in search needs
+cast-t23 c = let w = fits c .1 .1 .1 .0 in search needs
 
 cast-t24 : tie.Need-cast-t24
-cast-t24 c = let w = fits c .1 .1 .0 in search needs
-
-cast-t25 : tie.Need-cast-t25
-cast-t25 c = let w = fits c .1 .1 .1 .0 in search needs
-
-cast-t26 : tie.Need-cast-t26
-cast-t26 c = let w = fits c .1 .1 .1 .1 .0 in search needs
+cast-t24 c = let w = fits c .1 .1 .1 .1 .0 in search needs
 
 put-words-requires : tie.Need-put-words-requires
 put-words-requires c κs = search needs
@@ -100,11 +100,11 @@ fusion-complement-union-spec =
     (tie.spec
     complement-union-requires
     enum-known-rows
+    cast-t20
+    cast-t21
     cast-t22
     cast-t23
     cast-t24
-    cast-t25
-    cast-t26
     put-words-requires
     enum-known-number
     put-refusal-requires

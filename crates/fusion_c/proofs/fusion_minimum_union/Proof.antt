@@ -26,28 +26,28 @@ module _ (c : tie.After-slice-known3) where
   start = call .before .before .before .before .before .before
 
 -- the counts of a done answer
-abbrev counts : tie.After-put-words-arg → List ℕ
-counts c = let v = c .before .before .rows .given .0 in v .0 ∷ v .1 .0 ∷ v .1 .1 .0 ∷ v .1 .1 .1 .0 ∷ []
+abbrev counts : tie.After-known-told → List ℕ
+counts c = let v = c .before .rows .given .0 in v .0 ∷ v .1 .0 ∷ v .1 .1 .0 ∷ v .1 .1 .1 .0 ∷ []
 
 -- they fit words of 32 bits
-fits : (c : tie.After-put-words-arg) → FitWords (counts c)
+fits : (c : tie.After-known-told) → FitWords (counts c)
 fits c =
-    let k = c .before .before .before .before in
+    let k = c .before .before .before in
     let s = start k .args in
     let said = call k .minimum-union .ensures .answers in
-    minimum-fits (s .first .now) (s .second .now) (length (s .table .now)) _ (sym said ∙ ap minimumSays (c .before .before .rows .given .1))
+    minimum-fits (s .first .now) (s .second .now) (length (s .table .now)) _ (sym said ∙ ap minimumSays (c .before .rows .given .1))
+
+cast-t16 : tie.Need-cast-t16
+cast-t16 c = let w = fits c .0 in search needs
+
+cast-t17 : tie.Need-cast-t17
+cast-t17 c = let w = fits c .1 .0 in search needs
 
 cast-t18 : tie.Need-cast-t18
-cast-t18 c = let w = fits c .0 in search needs
+cast-t18 c = let w = fits c .1 .1 .0 in search needs
 
 cast-t19 : tie.Need-cast-t19
-cast-t19 c = let w = fits c .1 .0 in search needs
-
-cast-t20 : tie.Need-cast-t20
-cast-t20 c = let w = fits c .1 .1 .0 in search needs
-
-cast-t21 : tie.Need-cast-t21
-cast-t21 c = let w = fits c .1 .1 .1 .0 in search needs
+cast-t19 c = let w = fits c .1 .1 .1 .0 in search needs
 
 put-words-requires : tie.Need-put-words-requires
 put-words-requires c κs = search needs
@@ -90,10 +90,10 @@ fusion-minimum-union-spec =
     (tie.spec
     minimum-union-requires
     enum-known-rows
+    cast-t16
+    cast-t17
     cast-t18
     cast-t19
-    cast-t20
-    cast-t21
     put-words-requires
     enum-known-number
     put-refusal-requires

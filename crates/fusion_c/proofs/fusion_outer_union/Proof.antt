@@ -26,25 +26,25 @@ module _ (c : tie.After-slice-known3) where
   start = call .before .before .before .before .before .before
 
 -- the counts of a done answer
-abbrev counts : tie.After-put-words-arg → List ℕ
-counts c = let v = c .before .before .rows .given .0 in v .0 ∷ v .1 .0 ∷ v .1 .1 .0 ∷ []
+abbrev counts : tie.After-known-told → List ℕ
+counts c = let v = c .before .rows .given .0 in v .0 ∷ v .1 .0 ∷ v .1 .1 .0 ∷ []
 
 -- they fit words of 32 bits
-fits : (c : tie.After-put-words-arg) → FitWords (counts c)
+fits : (c : tie.After-known-told) → FitWords (counts c)
 fits c =
-    let k = c .before .before .before .before in
+    let k = c .before .before .before in
     let s = start k .args in
     let said = call k .outer-union .ensures .answers in
-    outer-fits (s .first .now) (s .second .now) (length (s .table .now)) _ (sym said ∙ ap outerSays (c .before .before .rows .given .1))
+    outer-fits (s .first .now) (s .second .now) (length (s .table .now)) _ (sym said ∙ ap outerSays (c .before .rows .given .1))
+
+cast-t15 : tie.Need-cast-t15
+cast-t15 c = let w = fits c .0 in search needs
+
+cast-t16 : tie.Need-cast-t16
+cast-t16 c = let w = fits c .1 .0 in search needs
 
 cast-t17 : tie.Need-cast-t17
-cast-t17 c = let w = fits c .0 in search needs
-
-cast-t18 : tie.Need-cast-t18
-cast-t18 c = let w = fits c .1 .0 in search needs
-
-cast-t19 : tie.Need-cast-t19
-cast-t19 c = let w = fits c .1 .1 .0 in search needs
+cast-t17 c = let w = fits c .1 .1 .0 in search needs
 
 put-words-requires : tie.Need-put-words-requires
 put-words-requires c κs = search needs
@@ -87,9 +87,9 @@ fusion-outer-union-spec =
     (tie.spec
     outer-union-requires
     enum-known-rows
+    cast-t15
+    cast-t16
     cast-t17
-    cast-t18
-    cast-t19
     put-words-requires
     enum-known-number
     put-refusal-requires
