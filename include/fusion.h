@@ -29,9 +29,10 @@
  *   6     sets (complement union, otherwise 0)        0
  *   7     words written into sets (complement union,  0
  *         otherwise 0)
+ *   8     0                                           0
  *
  * An answer buffer with fewer than FUSION_ANSWER_WORDS words takes the words
- * that fit; words past the eighth stay as they are. The refused table is 0 for
+ * that fit; words past the ninth stay as they are. The refused table is 0 for
  * the first, 1 for the second and 2 for all numbers from 8.
  *
  * A refusal changes no word of table and sets. After a done call, the words of
@@ -48,7 +49,7 @@ extern "C" {
 #endif
 
 /* Words of an answer. */
-#define FUSION_ANSWER_WORDS 8
+#define FUSION_ANSWER_WORDS 9
 
 /* Table words that are enough for every outer and every minimum union. */
 #define FUSION_UNION_WORDS (1 + 16 + 64 * 16)

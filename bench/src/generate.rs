@@ -804,7 +804,7 @@ pub fn buffer_length(rng: &mut Rng, needed: usize) -> usize {
     }
 }
 
-/// Length of an answer buffer: mostly eight.
+/// Length of an answer buffer: mostly nine.
 pub fn answer_length(rng: &mut Rng) -> usize {
     if rng.chance(3, 4) {
         crate::ANSWER_WORDS

@@ -23,7 +23,7 @@ pub const MAX_TABLE_WORDS: usize = 1 + MAX_COLUMNS + MAX_SETS * MAX_COLUMNS;
 /// Words of the largest set list.
 pub const MAX_SET_WORDS: usize = 1 + 4 * MAX_SETS;
 /// Words of an answer.
-pub const ANSWER_WORDS: usize = 8;
+pub const ANSWER_WORDS: usize = 9;
 
 /// The answer of a call. Fields without a value for the call are 0.
 #[derive(Clone, Copy, Debug, Default, PartialEq, Eq)]
@@ -59,10 +59,11 @@ impl Answer {
             self.pairs,
             self.sets,
             self.set_words,
+            0,
         ]
     }
 
-    /// Writes as many of the eight words as fit and returns the number.
+    /// Writes as many of the nine words as fit and returns the number.
     pub fn give(self, out: &mut [u32]) -> u32 {
         for (place, word) in out.iter_mut().zip(self.to_words()) {
             *place = word;

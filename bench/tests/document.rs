@@ -5,7 +5,7 @@ use fusion_bench::ffi::Product;
 use fusion_bench::generate::{self, cell, Rng, Table};
 use fusion_bench::naive::Naive;
 use fusion_bench::reference::Reference;
-use fusion_bench::{Call, Unions, MAX_SET_WORDS, MAX_TABLE_WORDS};
+use fusion_bench::{Call, Unions, ANSWER_WORDS, MAX_SET_WORDS, MAX_TABLE_WORDS};
 
 const FILL: u32 = 0x5A5A_5A5A;
 
@@ -26,10 +26,10 @@ fn run(
     call: Call,
     first: &[u32],
     second: &[u32],
-) -> ([u32; 8], Vec<u32>, Vec<u32>) {
+) -> ([u32; ANSWER_WORDS], Vec<u32>, Vec<u32>) {
     let mut table = vec![FILL; MAX_TABLE_WORDS + 1];
     let mut sets = vec![FILL; MAX_SET_WORDS + 1];
-    let mut answer = [FILL; 8];
+    let mut answer = [FILL; ANSWER_WORDS];
     let number = unions.run(call, first, second, &mut table, &mut sets, &mut answer);
     assert_eq!(number, answer[0]);
     let (words, set_words) = (answer[3] as usize, answer[7] as usize);
@@ -104,7 +104,7 @@ fn p1_no_rows() {
                 &table(&[10, 12], &[]),
             );
             let set_words = u32::from(call == Call::Complement);
-            assert_eq!(answer, [0, 0, 0, 4, 0, 0, 0, set_words]);
+            assert_eq!(answer, [0, 0, 0, 4, 0, 0, 0, set_words, 0]);
             assert_eq!(words, table(&[10, 11, 12], &[]));
         }
     }
@@ -161,7 +161,7 @@ fn p6_zero_is_filled() {
             &table(&[10, 11], &[&[0, -1]]),
             &table(&[10, 11], &[&[-1, -1]]),
         );
-        assert_eq!(answer, [0, 0, 1, 5, 1, 2, 0, 0]);
+        assert_eq!(answer, [0, 0, 1, 5, 1, 2, 0, 0, 0]);
         assert_eq!(words, table(&[10, 11], &[&[0, -1]]));
     }
 }
@@ -234,7 +234,7 @@ fn worked_example() {
     let ids = [10, 11, 12, 13];
     for mut unions in implementations() {
         let (answer, words, _) = run(&mut *unions, Call::Outer, &board, &plant);
-        assert_eq!(answer, [0, 0, 5, 25, 12, 0, 0, 0]);
+        assert_eq!(answer, [0, 0, 5, 25, 12, 0, 0, 0, 0]);
         let rows: [&[i64]; 5] = [
             &[7, -1, 40, -1],
             &[7, 3, -1, -1],
@@ -245,11 +245,11 @@ fn worked_example() {
         assert_eq!(words, table(&ids, &rows));
 
         let (answer, words, _) = run(&mut *unions, Call::Minimum, &board, &plant);
-        assert_eq!(answer, [0, 0, 4, 21, 10, 18, 0, 0]);
+        assert_eq!(answer, [0, 0, 4, 21, 10, 18, 0, 0, 0]);
         assert_eq!(words, table(&ids, &[rows[0], rows[2], rows[3], rows[4]]));
 
         let (answer, words, list) = run(&mut *unions, Call::Complement, &board, &plant);
-        assert_eq!(answer, [0, 0, 3, 17, 11, 0, 3, 13]);
+        assert_eq!(answer, [0, 0, 3, 17, 11, 0, 3, 13, 0]);
         assert_eq!(
             words,
             table(&ids, &[&[7, 3, 40, -1], &[7, 3, 40, 2], &[9, 5, 41, 1]])
@@ -267,7 +267,7 @@ fn short_buffers_and_answers() {
     for mut unions in implementations() {
         for table_len in 0..20 {
             for sets_len in 0..16 {
-                for answer_len in [0, 1, 2, 7, 8, 9] {
+                for answer_len in [0, 1, 2, 7, 8, 9, 10] {
                     let mut table = vec![FILL; table_len];
                     let mut sets = vec![FILL; sets_len];
                     let mut answer = vec![FILL; answer_len];
@@ -280,14 +280,14 @@ fn short_buffers_and_answers() {
                         &mut answer,
                     );
                     let (wanted, words) = if table_len < 17 {
-                        (10, [10, 2, 0, 0, 0, 0, 0, 0])
+                        (10, [10, 2, 0, 0, 0, 0, 0, 0, 0])
                     } else if sets_len < 13 {
-                        (11, [11, 2, 0, 0, 0, 0, 0, 0])
+                        (11, [11, 2, 0, 0, 0, 0, 0, 0, 0])
                     } else {
-                        (0, [0, 0, 3, 17, 11, 0, 3, 13])
+                        (0, [0, 0, 3, 17, 11, 0, 3, 13, 0])
                     };
                     assert_eq!(number, wanted);
-                    let fits = answer_len.min(8);
+                    let fits = answer_len.min(ANSWER_WORDS);
                     assert_eq!(answer[..fits], words[..fits]);
                     assert!(answer[fits..].iter().all(|&word| word == FILL));
                     if number != 0 {
@@ -313,19 +313,19 @@ fn row_and_column_limits() {
                 0
             );
             let refused = run(&mut *unions, call, &table(&[1], &rows(33)), &good).0;
-            assert_eq!(refused, [3, 0, 0, 0, 0, 0, 0, 0]);
+            assert_eq!(refused, [3, 0, 0, 0, 0, 0, 0, 0, 0]);
             let refused = run(&mut *unions, call, &good, &table(&[1], &rows(33))).0;
-            assert_eq!(refused, [3, 1, 0, 0, 0, 0, 0, 0]);
+            assert_eq!(refused, [3, 1, 0, 0, 0, 0, 0, 0, 0]);
             let ids: Vec<u32> = (0..17).collect();
             let (left, right) = (table(&ids[..9], &[]), table(&ids[8..], &[]));
             assert_eq!(
                 run(&mut *unions, call, &left, &right).0,
-                [8, 2, 0, 0, 0, 0, 0, 0]
+                [8, 2, 0, 0, 0, 0, 0, 0, 0]
             );
             let right = table(&ids[8..16], &[]);
             assert_eq!(run(&mut *unions, call, &left, &right).0[0], 0);
             let refused = run(&mut *unions, call, &table(&ids, &[]), &good).0;
-            assert_eq!(refused, [2, 0, 0, 0, 0, 0, 0, 0]);
+            assert_eq!(refused, [2, 0, 0, 0, 0, 0, 0, 0, 0]);
         }
     }
 }
@@ -351,7 +351,7 @@ fn set_limits() {
                 &first.image(),
                 &second.image(),
             );
-            assert_eq!(answer, [9, 2, 0, 0, 0, 0, 0, 0]);
+            assert_eq!(answer, [9, 2, 0, 0, 0, 0, 0, 0, 0]);
         }
     }
 }
@@ -367,7 +367,7 @@ fn far_over_the_set_limit() {
                 &first.image(),
                 &second.image(),
             );
-            assert_eq!(answer, [9, 2, 0, 0, 0, 0, 0, 0]);
+            assert_eq!(answer, [9, 2, 0, 0, 0, 0, 0, 0, 0]);
         }
     }
 }
@@ -398,7 +398,7 @@ fn sixty_four_rows_in_one_set() {
             &first.image(),
             &second.image(),
         );
-        assert_eq!(answer, [0, 0, 1, 33, 16, 0, 1, 5]);
+        assert_eq!(answer, [0, 0, 1, 33, 16, 0, 1, 5, 0]);
         assert_eq!(
             list[1..],
             [0xBFFF_FFFF, 0xBFFF_FFFF, 0x8000_000F, 0x4000_0000]

@@ -112,7 +112,7 @@ fn main() {
     let mut region = vec![PATTERN; REGION_BYTES / 8];
     let mut table = vec![0; MAX_TABLE_WORDS];
     let mut sets = vec![0; MAX_SET_WORDS];
-    let mut answer = [0; 8];
+    let mut answer = [0; fusion_bench::ANSWER_WORDS];
     let mut lanes: Vec<(&str, Box<dyn Unions>)> = vec![
         ("empty call", Box::new(Empty)),
         ("reference", Box::new(Reference::new())),

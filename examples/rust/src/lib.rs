@@ -72,7 +72,7 @@ pub struct Fused {
     pub set_words: usize,
 }
 
-type Words = [u32; 8];
+type Words = [u32; 9];
 
 fn written(answer: &Words) -> Written {
     Written {
@@ -91,7 +91,7 @@ fn refusal(answer: &Words) -> Refusal {
 
 /// Writes the outer union of two images into `table`.
 pub fn outer_union(first: &[u32], second: &[u32], table: &mut [u32]) -> Result<Written, Refusal> {
-    let mut answer: Words = [0; 8];
+    let mut answer: Words = [0; 9];
     // SAFETY: pointers and lengths come from slices; the borrows keep the
     // written ones apart from all others.
     let number = unsafe {
@@ -119,7 +119,7 @@ pub fn minimum_union(
     second: &[u32],
     table: &mut [u32],
 ) -> Result<(Written, usize), Refusal> {
-    let mut answer: Words = [0; 8];
+    let mut answer: Words = [0; 9];
     // SAFETY: as in `outer_union`.
     let number = unsafe {
         raw::fusion_minimum_union(
@@ -147,7 +147,7 @@ pub fn complement_union(
     table: &mut [u32],
     sets: &mut [u32],
 ) -> Result<Fused, Refusal> {
-    let mut answer: Words = [0; 8];
+    let mut answer: Words = [0; 9];
     // SAFETY: as in `outer_union`.
     let number = unsafe {
         raw::fusion_complement_union(
