@@ -13,7 +13,7 @@ use borrow.Author.Tests.{eqb-true, eqb-false, eq-eqb, ne-eqb}
 use Rattle.definitions.proofs.Bools.{bool-cases, clash, not-so, or-cases, or-l, or-r, and-l, and-r}
 use Rattle.bitsets.specs.Bits.{has, withRow, Inside, withoutLowest}
 use Rattle.bitsets.proofs.Bits.{bit-at, Lowest, has-none, has-with, rest-in, rest-of}
-use Rattle.fusing.specs.Groups.{LeaderOf, Groups}
+use Rattle.fusing.specs.Groups.{bucketCount, LeaderOf, Groups}
 use Rattle.fusing.proofs.Rests.{passed, passed-in, passed-none, passed-all, among-more, passed-next, passed-else, passed-more, passed-other, passed-old, passed-cases}
 
 -- ---- a leader is sought
@@ -57,29 +57,29 @@ one-has j k h = ap (λ (x : ℕ). has x k) (sym (or-zero-l ((1 * 2 ^ j) % 2 ^ 64
 
 -- ---- the rows are grouped
 
--- the leaders are marked by the last digits of their cells
+-- the leaders stand in buckets by the last digits of their cells
 abbrev leads : (ℕ → ℕ) → List ℕ → ℕ → Bool
-leads cell marks k = has (getD marks (cell k % 16) 0) k
+leads cell buckets k = has (getD buckets (cell k % bucketCount) 0) k
 
 -- the rows that are not in the rest are grouped
-pub record Grouping (cell : ℕ → ℕ) (filled rest : ℕ) (marks leaders equal : List ℕ) : Type 0 where
+pub record Grouping (cell : ℕ → ℕ) (filled rest : ℕ) (buckets leaders equal : List ℕ) : Type 0 where
   pub among : (k : ℕ) → has rest k ≡ true → has filled k ≡ true
-  pub marked : (d k : ℕ) → d < 16 → has (getD marks d 0) k ≡ true → passed filled rest k ≡ true
-  pub one : (k i : ℕ) → leads cell marks k ≡ true → leads cell marks i ≡ true → cell k ≡ cell i → k ≡ i
-  pub group : (k i : ℕ) → leads cell marks k ≡ true → has (getD equal k 0) i ≡ (passed filled rest i && eqb (cell k) (cell i))
-  pub led : (i : ℕ) → passed filled rest i ≡ true → (leads cell marks (getD leaders i 0) ≡ true) × (cell (getD leaders i 0) ≡ cell i)
+  pub held : (d k : ℕ) → d < bucketCount → has (getD buckets d 0) k ≡ true → passed filled rest k ≡ true
+  pub one : (k i : ℕ) → leads cell buckets k ≡ true → leads cell buckets i ≡ true → cell k ≡ cell i → k ≡ i
+  pub group : (k i : ℕ) → leads cell buckets k ≡ true → has (getD equal k 0) i ≡ (passed filled rest i && eqb (cell k) (cell i))
+  pub led : (i : ℕ) → passed filled rest i ≡ true → (leads cell buckets (getD leaders i 0) ≡ true) × (cell (getD leaders i 0) ≡ cell i)
 
-digit-small : (x : ℕ) → x % 16 < 16
+digit-small : (x : ℕ) → x % bucketCount < bucketCount
 digit-small x = omega arith
 
-pub group-start : (cell : ℕ → ℕ) (filled : ℕ) (leaders equal : List ℕ) → Grouping cell filled filled (replicate 16 0) leaders equal
+pub group-start : (cell : ℕ → ℕ) (filled : ℕ) (leaders equal : List ℕ) → Grouping cell filled filled (replicate bucketCount 0) leaders equal
 group-start cell filled leaders equal =
-    let none : (d k : ℕ) → d < 16 → has (getD (replicate 16 0) d 0) k ≡ false = λ d k h. ap (λ (x : ℕ). has x k) (getD-replicate 16 d 0 0 h) ∙ has-none k in
+    let none : (d k : ℕ) → d < bucketCount → has (getD (replicate bucketCount 0) d 0) k ≡ false = λ d k h. ap (λ (x : ℕ). has x k) (getD-replicate bucketCount d 0 0 h) ∙ has-none k in
     record {
       among = λ k h. h;
-      marked = λ d k h m. absurd (clash m (none d k h));
-      one = λ k i m q e. absurd (clash m (none (cell k % 16) k (digit-small (cell k))));
-      group = λ k i m. absurd (clash m (none (cell k % 16) k (digit-small (cell k))));
+      held = λ d k h m. absurd (clash m (none d k h));
+      one = λ k i m q e. absurd (clash m (none (cell k % bucketCount) k (digit-small (cell k))));
+      group = λ k i m. absurd (clash m (none (cell k % bucketCount) k (digit-small (cell k))));
       led = λ i h. absurd (clash h (passed-none filled i));
     }
 
@@ -110,41 +110,41 @@ group-with was now false same e f = last (was && same) ∙ ap (λ (b : Bool). b 
     last false = refl
 
 -- row j is next; a leader of before is sought for it
-module _ {cell : ℕ → ℕ} {filled rest : ℕ} {marks leaders equal : List ℕ} (inv : Grouping cell filled rest marks leaders equal) {j : ℕ} (low : Lowest rest j) where
+module _ {cell : ℕ → ℕ} {filled rest : ℕ} {buckets leaders equal : List ℕ} (inv : Grouping cell filled rest buckets leaders equal) {j : ℕ} (low : Lowest rest j) where
   abbrev digit : ℕ
-  digit = cell j % 16
+  digit = cell j % bucketCount
 
-  pub marked-filled : (d k : ℕ) → d < 16 → has (getD marks d 0) k ≡ true → has filled k ≡ true
-  marked-filled d k h m = passed-in filled rest k (inv .marked d k h m)
+  pub bucket-filled : (d k : ℕ) → d < bucketCount → has (getD buckets d 0) k ≡ true → has filled k ≡ true
+  bucket-filled d k h m = passed-in filled rest k (inv .held d k h m)
 
-  pub next-unmarked : (d : ℕ) → d < 16 → has (getD marks d 0) j ≡ false
-  next-unmarked d h = not-so (has (getD marks d 0) j) (λ m. passed-other filled rest j (inv .among) low j (inv .marked d j h m) refl)
+  pub next-outside : (d : ℕ) → d < bucketCount → has (getD buckets d 0) j ≡ false
+  next-outside d h = not-so (has (getD buckets d 0) j) (λ m. passed-other filled rest j (inv .among) low j (inv .held d j h m) refl)
 
-  leader-passed : (k : ℕ) → leads cell marks k ≡ true → passed filled rest k ≡ true
-  leader-passed k m = inv .marked (cell k % 16) k (digit-small (cell k)) m
+  leader-passed : (k : ℕ) → leads cell buckets k ≡ true → passed filled rest k ≡ true
+  leader-passed k m = inv .held (cell k % bucketCount) k (digit-small (cell k)) m
 
-  marked-more : (d k : ℕ) → d < 16 → has (getD marks d 0) k ≡ true → passed filled (withoutLowest rest) k ≡ true
-  marked-more d k h m = passed-old filled rest j (inv .among) low k (inv .marked d k h m)
+  bucket-more : (d k : ℕ) → d < bucketCount → has (getD buckets d 0) k ≡ true → passed filled (withoutLowest rest) k ≡ true
+  bucket-more d k h m = passed-old filled rest j (inv .among) low k (inv .held d k h m)
 
   module _ (small : j < 64) (space : j < length leaders) where
     -- the next row's leader is r
-    led-more : (r : ℕ) (marks' : List ℕ) → ((k : ℕ) → leads cell marks k ≡ true → leads cell marks' k ≡ true) → leads cell marks' r ≡ true → cell r ≡ cell j
+    led-more : (r : ℕ) (buckets' : List ℕ) → ((k : ℕ) → leads cell buckets k ≡ true → leads cell buckets' k ≡ true) → leads cell buckets' r ≡ true → cell r ≡ cell j
         → (i : ℕ) → passed filled (withoutLowest rest) i ≡ true
-        → (leads cell marks' (getD (set leaders j r) i 0) ≡ true) × (cell (getD (set leaders j r) i 0) ≡ cell i)
-    led-more r marks' still m e i h =
+        → (leads cell buckets' (getD (set leaders j r) i 0) ≡ true) × (cell (getD (set leaders j r) i 0) ≡ cell i)
+    led-more r buckets' still m e i h =
         passed-cases filled rest j (inv .among) low i h
         (λ p d.
         let o = inv .led i p in
         let q : getD leaders i 0 ≡ getD (set leaders j r) i 0 = sym (getD-set-other leaders j i r 0 d) in
-        (subst (λ (k : ℕ). leads cell marks' k ≡ true) q (still (getD leaders i 0) (o .0)), ap cell (sym q) ∙ o .1))
+        (subst (λ (k : ℕ). leads cell buckets' k ≡ true) q (still (getD leaders i 0) (o .0)), ap cell (sym q) ∙ o .1))
         (λ q.
         let w : r ≡ getD (set leaders j r) i 0 = sym (ap (λ (k : ℕ). getD (set leaders j r) k 0) q ∙ getD-set-same leaders j r 0 space) in
-        (subst (λ (k : ℕ). leads cell marks' k ≡ true) w m, ap cell (sym w) ∙ e ∙ ap cell (sym q)))
+        (subst (λ (k : ℕ). leads cell buckets' k ≡ true) w m, ap cell (sym w) ∙ e ∙ ap cell (sym q)))
 
     -- no group has its number
-    module _ (r : ℕ) (leader : LeaderOf cell (cell j) (getD marks digit 0) j r) (here : r ≡ j) (room : j < length equal) (size : length marks ≡ 16) where
-      abbrev marks' : List ℕ
-      marks' = set marks digit (bitOr (getD marks digit 0) ((1 * 2 ^ j) % 2 ^ 64))
+    module _ (r : ℕ) (leader : LeaderOf cell (cell j) (getD buckets digit 0) j r) (here : r ≡ j) (room : j < length equal) (size : length buckets ≡ bucketCount) where
+      abbrev buckets' : List ℕ
+      buckets' = set buckets digit (bitOr (getD buckets digit 0) ((1 * 2 ^ j) % 2 ^ 64))
 
       abbrev equal' : List ℕ
       equal' = set equal j ((1 * 2 ^ j) % 2 ^ 64)
@@ -153,39 +153,39 @@ module _ {cell : ℕ → ℕ} {filled rest : ℕ} {marks leaders equal : List �
       other-cell k p e =
           let o = inv .led k p in
           let same : cell (getD leaders k 0) ≡ cell j = o .1 ∙ e in
-          leader .none here (getD leaders k 0) (ap (λ (x : ℕ). has (getD marks (x % 16) 0) (getD leaders k 0)) (sym same) ∙ o .0) same
+          leader .none here (getD leaders k 0) (ap (λ (x : ℕ). has (getD buckets (x % bucketCount) 0) (getD leaders k 0)) (sym same) ∙ o .0) same
 
-      mark-here : (k : ℕ) → has (getD marks' digit 0) k ≡ (has (getD marks digit 0) k || eqb k j)
-      mark-here k =
-          ap (λ (x : ℕ). has x k) (getD-set-same marks digit (bitOr (getD marks digit 0) ((1 * 2 ^ j) % 2 ^ 64)) 0 (omega (arith, digit-small (cell j))))
-          ∙ bit-has (getD marks digit 0) j k small
+      bucket-here : (k : ℕ) → has (getD buckets' digit 0) k ≡ (has (getD buckets digit 0) k || eqb k j)
+      bucket-here k =
+          ap (λ (x : ℕ). has x k) (getD-set-same buckets digit (bitOr (getD buckets digit 0) ((1 * 2 ^ j) % 2 ^ 64)) 0 (omega (arith, digit-small (cell j))))
+          ∙ bit-has (getD buckets digit 0) j k small
 
-      mark-else : (d k : ℕ) → (d ≡ digit → ⊥) → has (getD marks' d 0) k ≡ has (getD marks d 0) k
-      mark-else d k n = ap (λ (x : ℕ). has x k) (getD-set-other marks digit d (bitOr (getD marks digit 0) ((1 * 2 ^ j) % 2 ^ 64)) 0 n)
+      bucket-else : (d k : ℕ) → (d ≡ digit → ⊥) → has (getD buckets' d 0) k ≡ has (getD buckets d 0) k
+      bucket-else d k n = ap (λ (x : ℕ). has x k) (getD-set-other buckets digit d (bitOr (getD buckets digit 0) ((1 * 2 ^ j) % 2 ^ 64)) 0 n)
 
-      mark-cases : (d k : ℕ) → has (getD marks' d 0) k ≡ true → (has (getD marks d 0) k ≡ true) ⊎ (k ≡ j)
-      mark-cases d k m =
+      bucket-cases : (d k : ℕ) → has (getD buckets' d 0) k ≡ true → (has (getD buckets d 0) k ≡ true) ⊎ (k ≡ j)
+      bucket-cases d k m =
           bool-cases (eqb d digit)
           (λ e.
           let q : d ≡ digit = eqb-true d digit e in
-          ⊎-elim (λ h. inl (ap (λ (x : ℕ). has (getD marks x 0) k) q ∙ h)) (λ h. inr (eqb-true k j h))
-          (or-cases (has (getD marks digit 0) k) (eqb k j) (sym (mark-here k) ∙ ap (λ (x : ℕ). has (getD marks' x 0) k) (sym q) ∙ m)))
-          (λ e. inl (sym (mark-else d k (eqb-false d digit e)) ∙ m))
+          ⊎-elim (λ h. inl (ap (λ (x : ℕ). has (getD buckets x 0) k) q ∙ h)) (λ h. inr (eqb-true k j h))
+          (or-cases (has (getD buckets digit 0) k) (eqb k j) (sym (bucket-here k) ∙ ap (λ (x : ℕ). has (getD buckets' x 0) k) (sym q) ∙ m)))
+          (λ e. inl (sym (bucket-else d k (eqb-false d digit e)) ∙ m))
 
-      mark-still : (d k : ℕ) → has (getD marks d 0) k ≡ true → has (getD marks' d 0) k ≡ true
-      mark-still d k m =
+      bucket-still : (d k : ℕ) → has (getD buckets d 0) k ≡ true → has (getD buckets' d 0) k ≡ true
+      bucket-still d k m =
           bool-cases (eqb d digit)
           (λ e.
           let q : d ≡ digit = eqb-true d digit e in
-          ap (λ (x : ℕ). has (getD marks' x 0) k) q
-          ∙ mark-here k
-          ∙ or-l (has (getD marks digit 0) k) (eqb k j) (ap (λ (x : ℕ). has (getD marks x 0) k) (sym q) ∙ m))
-          (λ e. mark-else d k (eqb-false d digit e) ∙ m)
+          ap (λ (x : ℕ). has (getD buckets' x 0) k) q
+          ∙ bucket-here k
+          ∙ or-l (has (getD buckets digit 0) k) (eqb k j) (ap (λ (x : ℕ). has (getD buckets x 0) k) (sym q) ∙ m))
+          (λ e. bucket-else d k (eqb-false d digit e) ∙ m)
 
-      mark-own : leads cell marks' j ≡ true
-      mark-own = mark-here j ∙ or-r (has (getD marks digit 0) j) (eqb j j) (eq-eqb j j refl)
+      bucket-own : leads cell buckets' j ≡ true
+      bucket-own = bucket-here j ∙ or-r (has (getD buckets digit 0) j) (eqb j j) (eq-eqb j j refl)
 
-      group-old : (k i : ℕ) → leads cell marks k ≡ true → has (getD equal' k 0) i ≡ (passed filled (withoutLowest rest) i && eqb (cell k) (cell i))
+      group-old : (k i : ℕ) → leads cell buckets k ≡ true → has (getD equal' k 0) i ≡ (passed filled (withoutLowest rest) i && eqb (cell k) (cell i))
       group-old k i m =
           let p : passed filled rest k ≡ true = leader-passed k m in
           ap (λ (x : ℕ). has x i) (getD-set-other equal j k ((1 * 2 ^ j) % 2 ^ 64) 0 (passed-other filled rest j (inv .among) low k p))
@@ -209,33 +209,33 @@ module _ {cell : ℕ → ℕ} {filled rest : ℕ} {marks leaders equal : List �
           (sym (passed-else filled rest j (inv .among) low i (eqb-false i j e)) ∙ and-l (passed filled (withoutLowest rest) i) (eqb (cell j) (cell i)) h)
           (sym (eqb-true (cell j) (cell i) (and-r (passed filled (withoutLowest rest) i) (eqb (cell j) (cell i)) h))))))
 
-      pub group-new : Grouping cell filled (bitAnd rest (rest - 1)) marks' (set leaders j r) equal'
+      pub group-new : Grouping cell filled (bitAnd rest (rest - 1)) buckets' (set leaders j r) equal'
       unfolding withoutLowest
       group-new = record {
         among = among-more filled rest j (inv .among) low;
-        marked = λ d k h m. ⊎-elim (λ o. marked-more d k h o) (λ q. ap (passed filled (withoutLowest rest)) q ∙ passed-next filled rest j (inv .among) low) (mark-cases d k m);
+        held = λ d k h m. ⊎-elim (λ o. bucket-more d k h o) (λ q. ap (passed filled (withoutLowest rest)) q ∙ passed-next filled rest j (inv .among) low) (bucket-cases d k m);
         one = λ k i m n e.
             ⊎-elim
-            (λ o. ⊎-elim (λ p. inv .one k i o p e) (λ q. absurd (other-cell k (leader-passed k o) (e ∙ ap cell q))) (mark-cases (cell i % 16) i n))
-            (λ q. ⊎-elim (λ p. absurd (other-cell i (leader-passed i p) (sym e ∙ ap cell q))) (λ t. q ∙ sym t) (mark-cases (cell i % 16) i n))
-            (mark-cases (cell k % 16) k m);
+            (λ o. ⊎-elim (λ p. inv .one k i o p e) (λ q. absurd (other-cell k (leader-passed k o) (e ∙ ap cell q))) (bucket-cases (cell i % bucketCount) i n))
+            (λ q. ⊎-elim (λ p. absurd (other-cell i (leader-passed i p) (sym e ∙ ap cell q))) (λ t. q ∙ sym t) (bucket-cases (cell i % bucketCount) i n))
+            (bucket-cases (cell k % bucketCount) k m);
         group = λ k i m.
             ⊎-elim (λ o. group-old k i o)
             (λ q. subst (λ (x : ℕ). has (getD equal' x 0) i ≡ (passed filled (withoutLowest rest) i && eqb (cell x) (cell i))) (sym q) (group-own i))
-            (mark-cases (cell k % 16) k m);
-        led = led-more r marks' (λ k m. mark-still (cell k % 16) k m) (ap (leads cell marks') here ∙ mark-own) (ap cell here);
+            (bucket-cases (cell k % bucketCount) k m);
+        led = led-more r buckets' (λ k m. bucket-still (cell k % bucketCount) k m) (ap (leads cell buckets') here ∙ bucket-own) (ap cell here);
       }
 
     -- the group of r has its number
-    module _ (r : ℕ) (leader : LeaderOf cell (cell j) (getD marks digit 0) j r) (d : r ≡ j → ⊥) (room : r < length equal) where
+    module _ (r : ℕ) (leader : LeaderOf cell (cell j) (getD buckets digit 0) j r) (d : r ≡ j → ⊥) (room : r < length equal) where
       abbrev grown : List ℕ
       grown = set equal r (bitOr (getD equal r 0) ((1 * 2 ^ j) % 2 ^ 64))
 
       same : cell r ≡ cell j
       same = leader .found d .1
 
-      leads-it : leads cell marks r ≡ true
-      leads-it = ap (λ (x : ℕ). has (getD marks (x % 16) 0) r) same ∙ leader .found d .0
+      leads-it : leads cell buckets r ≡ true
+      leads-it = ap (λ (x : ℕ). has (getD buckets (x % bucketCount) 0) r) same ∙ leader .found d .0
 
       group-it : (i : ℕ) → has (getD grown r 0) i ≡ (passed filled (withoutLowest rest) i && eqb (cell r) (cell i))
       group-it i =
@@ -245,36 +245,36 @@ module _ {cell : ℕ → ℕ} {filled rest : ℕ} {marks leaders equal : List �
           ∙ group-with (passed filled rest i) (passed filled (withoutLowest rest) i) (eqb i j) (eqb (cell r) (cell i)) (passed-more filled rest j (inv .among) low i)
           (λ e. eq-eqb (cell r) (cell i) (same ∙ ap cell (sym (eqb-true i j e))))
 
-      group-other : (k i : ℕ) → leads cell marks k ≡ true → (k ≡ r → ⊥) → has (getD grown k 0) i ≡ (passed filled (withoutLowest rest) i && eqb (cell k) (cell i))
+      group-other : (k i : ℕ) → leads cell buckets k ≡ true → (k ≡ r → ⊥) → has (getD grown k 0) i ≡ (passed filled (withoutLowest rest) i && eqb (cell k) (cell i))
       group-other k i m n =
           ap (λ (x : ℕ). has x i) (getD-set-other equal r k (bitOr (getD equal r 0) ((1 * 2 ^ j) % 2 ^ 64)) 0 n)
           ∙ inv .group k i m
           ∙ group-else (passed filled rest i) (passed filled (withoutLowest rest) i) (eqb i j) (eqb (cell k) (cell i)) (passed-more filled rest j (inv .among) low i)
           (λ e. ne-eqb (cell k) (cell i) (λ q. n (inv .one k r m leads-it (q ∙ ap cell (eqb-true i j e) ∙ sym same))))
 
-      pub group-more : Grouping cell filled (bitAnd rest (rest - 1)) marks (set leaders j r) grown
+      pub group-more : Grouping cell filled (bitAnd rest (rest - 1)) buckets (set leaders j r) grown
       unfolding withoutLowest
       group-more = record {
         among = among-more filled rest j (inv .among) low;
-        marked = marked-more;
+        held = bucket-more;
         one = inv .one;
         group = λ k i m.
             bool-cases (eqb k r)
             (λ e. subst (λ (x : ℕ). has (getD grown x 0) i ≡ (passed filled (withoutLowest rest) i && eqb (cell x) (cell i))) (sym (eqb-true k r e)) (group-it i))
             (λ e. group-other k i m (eqb-false k r e));
-        led = led-more r marks (λ k m. m) leads-it same;
+        led = led-more r buckets (λ k m. m) leads-it same;
       }
 
 -- all rows are grouped
-pub group-end : (cell : ℕ → ℕ) (filled rest : ℕ) (marks leaders equal : List ℕ) → rest ≡ 0 → Inside filled (length equal)
-    → Grouping cell filled rest marks leaders equal → Groups cell filled leaders equal
-group-end cell filled rest marks leaders equal e inside inv =
-    let own : (i : ℕ) → has filled i ≡ true → (leads cell marks (getD leaders i 0) ≡ true) × (cell (getD leaders i 0) ≡ cell i) =
+pub group-end : (cell : ℕ → ℕ) (filled rest : ℕ) (buckets leaders equal : List ℕ) → rest ≡ 0 → Inside filled (length equal)
+    → Grouping cell filled rest buckets leaders equal → Groups cell filled leaders equal
+group-end cell filled rest buckets leaders equal e inside inv =
+    let own : (i : ℕ) → has filled i ≡ true → (leads cell buckets (getD leaders i 0) ≡ true) × (cell (getD leaders i 0) ≡ cell i) =
     λ i h. inv .led i (passed-all filled rest i e ∙ h) in
     record {
       led = λ i h.
           let l = getD leaders i 0 in
-          inside l (passed-in filled rest l (inv .marked (cell l % 16) l (digit-small (cell l)) (own i h .0)));
+          inside l (passed-in filled rest l (inv .held (cell l % bucketCount) l (digit-small (cell l)) (own i h .0)));
       alike = λ i k h.
           let l = getD leaders i 0 in
           inv .group l k (own i h .0)

@@ -1,4 +1,4 @@
--- The rows of a column as groups of equal numbers: each row has a leader, and a word for each leader holds the rows that it leads.
+-- The rows of a column as groups of equal cells: each row has a leader, and a word for each leader holds the rows that it leads.
 use mathlib.Core.Path.{_≡_}
 use mathlib.Core.Bool.{true, _&&_}
 use mathlib.Core.List.{List}
@@ -6,6 +6,10 @@ use Prim.Native.Nat.{ℕ, _+_, _*_, _<_}
 use lib.Dec.{eqb}
 use lib.ListN.{length, getD}
 use Rattle.bitsets.specs.Bits.{has}
+
+-- leaders are kept by the last digit of their cells, a bucket a digit
+abbrev pub bucketCount : ℕ
+bucketCount = 16
 
 -- the cells of a column, by their rows
 abbrev pub cellAt : ℕ → List ℕ → ℕ → ℕ → ℕ

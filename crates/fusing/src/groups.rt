@@ -1,4 +1,4 @@
-// The rows with equal numbers in a column, as groups: one row of each number leads those that have it.
+// The rows with equal cells in a column, as groups: one row of each leads those that have the same.
 ghost use mathlib.Core.Path.{_≡_};
 ghost use mathlib.Core.Bool.{false};
 ghost use lib.ListN.{length};
@@ -22,8 +22,10 @@ fn leader(cells: &[u32], width: usize, c: usize, cell: u32, rows: u64, j: usize)
     j
 }
 
-// Writes for each row that is filled in column c its leader, and for each leader the rows that it leads. The marks hold the leaders so
-// far by the last hexadecimal digit of their numbers, so that seldom more than one is compared.
+// The leaders so far stand in buckets by the last digit of their cells, so that seldom more than one is compared.
+const BUCKETS: usize = 16;
+
+// Writes for each row that is filled in column c its leader, and for each leader the rows that it leads.
 pub(crate) fn group_rows(
     cells: &[u32],
     width: usize,
@@ -37,17 +39,17 @@ pub(crate) fn group_rows(
     ensures { λ r. ⌜ Groups (cellAt width (now (cells .entry)) c) filled (now (leaders .exit))
         (now (equal .exit)) ⌝ }
 {
-    let mut marks = [0u64; 16];
+    let mut buckets = [0u64; BUCKETS];
     let mut rest = filled;
     while rest != 0 {
         let j = u64::trailing_zeros(rest) as usize;
         let cell = cells[j * width + c];
-        let d = (cell % 16) as usize;
-        let k = leader(cells, width, c, cell, marks[d], j);
+        let d = cell as usize % BUCKETS;
+        let k = leader(cells, width, c, cell, buckets[d], j);
         leaders[j] = k;
         if k == j {
             equal[j] = 1u64 << j;
-            marks[d] = marks[d] | (1u64 << j);
+            buckets[d] = buckets[d] | (1u64 << j);
             rest = rest & (rest - 1);
         } else {
             equal[k] = equal[k] | (1u64 << j);

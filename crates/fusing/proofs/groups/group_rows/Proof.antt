@@ -9,18 +9,18 @@ use lib.Count.{trailingZeros, trailing-le}
 use lib.ListN.{length, length-set, getD}
 use Rattle.bitsets.specs.Bits.{has}
 use Rattle.bitsets.proofs.Bits.{Lowest, trailing-lowest, digit-below}
-use Rattle.fusing.specs.Groups.{cellAt}
-use Rattle.fusing.proofs.Grouping.{Grouping, group-start, marked-filled, next-unmarked, group-new, group-more, group-end}
+use Rattle.fusing.specs.Groups.{bucketCount, cellAt}
+use Rattle.fusing.proofs.Grouping.{Grouping, group-start, bucket-filled, next-outside, group-new, group-more, group-end}
 use Rattle.fusing.proofs.groups.group_rows.Statement.{statement}
 use Rattle.fusing.proofs.groups.group_rows.Tie as tie
 
 abbrev Inv-loop : tie.InvT-loop
-Inv-loop cells width c filled leaders₀ equal₀ marks₀ rest₀ leaders equal marks rest =
-    (rest < 2 ^ 64) × (length leaders ≡ length leaders₀) × (length equal ≡ length equal₀) × (length marks ≡ 16)
-    × Grouping (cellAt width cells c) filled rest marks leaders equal
+Inv-loop cells width c filled leaders₀ equal₀ buckets₀ rest₀ leaders equal buckets rest =
+    (rest < 2 ^ 64) × (length leaders ≡ length leaders₀) × (length equal ≡ length equal₀) × (length buckets ≡ bucketCount)
+    × Grouping (cellAt width cells c) filled rest buckets leaders equal
 
 abbrev μ-loop : tie.MeasureT-loop
-μ-loop cells width c filled leaders₀ equal₀ marks₀ rest₀ leaders equal marks rest = rest
+μ-loop cells width c filled leaders₀ equal₀ buckets₀ rest₀ leaders equal buckets rest = rest
 
 -- in the loop
 module _ (c : tie.In-loop Inv-loop μ-loop) where
@@ -58,9 +58,9 @@ module _ (c : tie.In-loop Inv-loop μ-loop) where
   room = omega (arith, start .pre .2 row filled-row, turn .loop .inv .2)
 
   -- and so is the word of another row that may lead it
-  marked-room : (k : ℕ) → has (getD (turn .loop .marks) (cell row % 16) 0) k ≡ true → k < length (turn .loop .equal)
-  marked-room k m =
-      let filled = marked-filled (turn .loop .inv .4) lowest-of (cell row % 16) k (omega arith) m in
+  bucket-room : (k : ℕ) → has (getD (turn .loop .buckets) (cell row % bucketCount) 0) k ≡ true → k < length (turn .loop .equal)
+  bucket-room k m =
+      let filled = bucket-filled (turn .loop .inv .4) lowest-of (cell row % bucketCount) k (omega arith) m in
       omega (arith, start .pre .2 k filled, turn .loop .inv .2)
 
   -- the rest gets smaller
@@ -68,7 +68,7 @@ module _ (c : tie.In-loop Inv-loop μ-loop) where
   rest-small = omega (arith, and-le-r (turn .loop .rest) (turn .loop .rest - 1))
 
 led-room : (c : tie.Else1 Inv-loop μ-loop) → c .before .leader .result < length (turn (c .before .before .before) .loop .equal)
-led-room c = marked-room (c .before .before .before) (c .before .leader .result) (c .before .leader .ensures .found (c .if1 .left) .0)
+led-room c = bucket-room (c .before .before .before) (c .before .leader .result) (c .before .leader .ensures .found (c .if1 .left) .0)
 
 loop-holds : tie.Need-loop-holds Inv-loop μ-loop
 loop-holds c =
@@ -91,7 +91,7 @@ shared-slice-read-cell : tie.Need-shared-slice-read-cell Inv-loop μ-loop
 shared-slice-read-cell c = within (c .before)
 
 cast-d : tie.Need-cast-d Inv-loop μ-loop
-cast-d c = search needs
+cast-d c = let s = start (c .before) .args in omega (arith, c .shared-slice-known2 .given (row (c .before) * s .width + s .c))
 
 mul-leader : tie.Need-mul-leader Inv-loop μ-loop
 mul-leader c = search needs
@@ -102,9 +102,9 @@ array-read-leader c = search needs
 leader-requires : tie.Need-leader-requires Inv-loop μ-loop
 leader-requires c κs =
     let i = c .before in
-    let d = cell i (row i) % 16 in (
-      λ k m. start i .pre .0 k (marked-filled (turn i .loop .inv .4) (lowest-of i) d k (omega arith) m),
-      next-unmarked (turn i .loop .inv .4) (lowest-of i) d (omega arith),
+    let d = cell i (row i) % bucketCount in (
+      λ k m. start i .pre .0 k (bucket-filled (turn i .loop .inv .4) (lowest-of i) d k (omega arith) m),
+      next-outside (turn i .loop .inv .4) (lowest-of i) d (omega arith),
     )
 
 mul-leaders : tie.Need-mul-leaders Inv-loop μ-loop
@@ -122,20 +122,20 @@ mul-equal c = omega (arith, room (c .before .before .before))
 slice-write-equal : tie.Need-slice-write-equal Inv-loop μ-loop
 slice-write-equal c = room (c .before .before .before)
 
-mul-marks : tie.Need-mul-marks Inv-loop μ-loop
-mul-marks c = search needs
+mul-buckets : tie.Need-mul-buckets Inv-loop μ-loop
+mul-buckets c = search needs
 
-array-read-marks : tie.Need-array-read-marks Inv-loop μ-loop
-array-read-marks c = search needs
+array-read-buckets : tie.Need-array-read-buckets Inv-loop μ-loop
+array-read-buckets c = search needs
 
-shl-marks : tie.Need-shl-marks Inv-loop μ-loop
-shl-marks c = small (c .before .before .before)
+shl-buckets : tie.Need-shl-buckets Inv-loop μ-loop
+shl-buckets c = small (c .before .before .before)
 
-mul-marks-2 : tie.Need-mul-marks-2 Inv-loop μ-loop
-mul-marks-2 c = search needs
+mul-buckets-2 : tie.Need-mul-buckets-2 Inv-loop μ-loop
+mul-buckets-2 c = search needs
 
-array-write-marks : tie.Need-array-write-marks Inv-loop μ-loop
-array-write-marks c = search needs
+array-write-buckets : tie.Need-array-write-buckets Inv-loop μ-loop
+array-write-buckets c = search needs
 
 sub-rest : tie.Need-sub-rest Inv-loop μ-loop
 sub-rest c = search needs
@@ -151,7 +151,7 @@ loop-again c =
       omega (arith, rest-small i, l .inv .0),
       length-set (l .leaders) (row i) _ ∙ l .inv .1,
       length-set (l .equal) (row i) _ ∙ l .inv .2,
-      length-set (l .marks) _ _ ∙ l .inv .3,
+      length-set (l .buckets) _ _ ∙ l .inv .3,
       group-new (l .inv .4) (lowest-of i) (small i) (space i) (k .leader .result) (k .leader .ensures) (c .if1 .taken) (room i) (l .inv .3),
     )
 
@@ -199,7 +199,7 @@ returns c =
     let l = c .before .loop in
     let q = c .before .before .before .before .before in
     let s = q .args in
-    group-end (cellAt (s .width) (s .cells .now) (s .c)) (s .filled) (l .rest) (l .marks) (l .leaders) (l .equal) (c .loop-test .left)
+    group-end (cellAt (s .width) (s .cells .now) (s .c)) (s .filled) (l .rest) (l .buckets) (l .leaders) (l .equal) (c .loop-test .left)
     (λ k h. omega (arith, q .pre .2 k h, l .inv .2)) (l .inv .4)
 
 pub group-rows-spec : {M : Type 1} → statement M
@@ -223,11 +223,11 @@ group-rows-spec =
     shl-equal
     mul-equal
     slice-write-equal
-    mul-marks
-    array-read-marks
-    shl-marks
-    mul-marks-2
-    array-write-marks
+    mul-buckets
+    array-read-buckets
+    shl-buckets
+    mul-buckets-2
+    array-write-buckets
     sub-rest
     loop-less
     loop-again
