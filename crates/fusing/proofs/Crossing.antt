@@ -8,13 +8,14 @@ use lib.Bits.{bitAnd, bitOr, and-le-l}
 use lib.ListN.{length, getD, take, drop, set as replace}
 use lib.Seq.{getD-set-same, getD-set-other}
 use borrow.Author.Count.{below-more}
+use Rattle.definitions.specs.Limits.{maxUnionRows}
 use Rattle.definitions.specs.Image.{rowsIn}
 use Rattle.definitions.specs.Word.{isFilled}
 use Rattle.definitions.specs.ComplementUnion.{agree, complement}
 use Rattle.definitions.proofs.Patterns.{only}
 use Rattle.lists.proofs.Walks.{next, end}
 use Rattle.lists.proofs.Flat.{rows-length, rows-at}
-use Rattle.bitsets.specs.Bits.{has, both, rowsBelow}
+use Rattle.bitsets.specs.Bits.{wordBits, has, both, rowsBelow}
 use Rattle.bitsets.proofs.Bits.{has-both, has-or, has-none, below-in}
 use Rattle.patterns.specs.Columns.{blankOf, filledIn, ColumnsOf}
 use Rattle.patterns.proofs.FilledRows.{filled-has, has-blank, blank-fits}
@@ -63,11 +64,11 @@ told-case false true true g = refl
 told-case false true false g = refl
 told-case false false y g = refl
 
-module _ (s t : List ℕ) (k : ℕ) (same : length s ≡ length t) (small : k < 64) where
+module _ (s t : List ℕ) (k : ℕ) (same : length s ≡ length t) (small : k < wordBits) where
   pub passed-none : Passed s t k 0 0 18446744073709551615 18446744073709551615
   unfolding rowsBelow
   passed-none =
-      let all : has (rowsBelow 64) k ≡ true = below-in 64 k small in
+      let all : has (rowsBelow wordBits) k ≡ true = below-in wordBits k small in
       record {
         shares = ap (λ (b : Bool). b || bothIn s t) (has-none k);
         first = ap (λ (b : Bool). not b || only s t) all;
@@ -75,16 +76,16 @@ module _ (s t : List ℕ) (k : ℕ) (same : length s ≡ length t) (small : k < 
       }
 
   -- the next column, whose words hold what the cells say
-  module _ (i shared above within : ℕ) (p : Passed s t k i shared above within) (filled empty : ℕ) (more : i < length s) (fits : filled < 2 ^ 64)
-      (fits-empty : empty < 2 ^ 64) (f : has filled k ≡ isFilled (getD t i 0)) (e : has empty k ≡ not (isFilled (getD s i 0))) where
-    shared-more : (has (bitOr shared (bitAnd filled (2 ^ 64 - 1 - empty))) k || bothIn (drop (i + 1) s) (drop (i + 1) t)) ≡ bothIn s t
+  module _ (i shared above within : ℕ) (p : Passed s t k i shared above within) (filled empty : ℕ) (more : i < length s) (fits : filled < 2 ^ wordBits)
+      (fits-empty : empty < 2 ^ wordBits) (f : has filled k ≡ isFilled (getD t i 0)) (e : has empty k ≡ not (isFilled (getD s i 0))) where
+    shared-more : (has (bitOr shared (bitAnd filled (2 ^ wordBits - 1 - empty))) k || bothIn (drop (i + 1) s) (drop (i + 1) t)) ≡ bothIn s t
     unfolding both bothIn
     shared-more =
         let rest = bothIn (drop (i + 1) s) (drop (i + 1) t) in
         ap (λ (b : Bool). b || rest)
-        (has-or shared (bitAnd filled (2 ^ 64 - 1 - empty)) k
+        (has-or shared (bitAnd filled (2 ^ wordBits - 1 - empty)) k
         ∙ ap (λ (b : Bool). has shared k || b)
-        (has-both filled (2 ^ 64 - 1 - empty) k ∙ ap₂ (λ (a b : Bool). a && b) f (has-lacked 64 empty k fits-empty small ∙ ap not e)))
+        (has-both filled (2 ^ wordBits - 1 - empty) k ∙ ap₂ (λ (a b : Bool). a && b) f (has-lacked wordBits empty k fits-empty small ∙ ap not e)))
         ∙ share-case (has shared k) (isFilled (getD s i 0)) (isFilled (getD t i 0)) rest
         ∙ ap (λ (b : Bool). has shared k || b) (sym (ap₂ bothIn (next 0 s i more) (next 0 t i (omega arith))))
         ∙ p .shares
@@ -100,26 +101,26 @@ module _ (s t : List ℕ) (k : ℕ) (same : length s ≡ length t) (small : k < 
         ∙ ap (λ (b : Bool). not (has above k) || b) (sym (ap₂ only (next 0 s i more) (next 0 t i (omega arith))))
         ∙ p .first
 
-    second-more : (not (has (bitAnd within (2 ^ 64 - 1 - bitAnd filled empty)) k) || only (drop (i + 1) t) (drop (i + 1) s)) ≡ only t s
+    second-more : (not (has (bitAnd within (2 ^ wordBits - 1 - bitAnd filled empty)) k) || only (drop (i + 1) t) (drop (i + 1) s)) ≡ only t s
     unfolding both only
     second-more =
         let rest = only (drop (i + 1) t) (drop (i + 1) s) in
-        let fit : bitAnd filled empty < 2 ^ 64 = omega (arith, and-le-l filled empty) in
+        let fit : bitAnd filled empty < 2 ^ wordBits = omega (arith, and-le-l filled empty) in
         ap (λ (b : Bool). not b || rest)
-        (has-both within (2 ^ 64 - 1 - bitAnd filled empty) k
+        (has-both within (2 ^ wordBits - 1 - bitAnd filled empty) k
         ∙ ap (λ (b : Bool). has within k && b)
-        (has-lacked 64 (bitAnd filled empty) k fit small ∙ ap not (has-both filled empty k ∙ ap₂ (λ (a b : Bool). a && b) f e)))
+        (has-lacked wordBits (bitAnd filled empty) k fit small ∙ ap not (has-both filled empty k ∙ ap₂ (λ (a b : Bool). a && b) f e)))
         ∙ second-case (has within k) (isFilled (getD s i 0)) (isFilled (getD t i 0)) rest
         ∙ ap (λ (b : Bool). not (has within k) || b) (sym (ap₂ only (next 0 t i (omega arith)) (next 0 s i more)))
         ∙ p .second
 
-    pub passed-more : Passed s t k (i + 1) (bitOr shared (bitAnd filled (2 ^ 64 - 1 - empty))) (bitAnd above (bitOr filled empty))
-        (bitAnd within (2 ^ 64 - 1 - bitAnd filled empty))
+    pub passed-more : Passed s t k (i + 1) (bitOr shared (bitAnd filled (2 ^ wordBits - 1 - empty))) (bitAnd above (bitOr filled empty))
+        (bitAnd within (2 ^ wordBits - 1 - bitAnd filled empty))
     passed-more = record { shares = shared-more; first = first-more; second = second-more }
 
   -- all columns are passed
-  passed-told : (i shared above within : ℕ) → length s ≤ i → above < 2 ^ 64 → within < 2 ^ 64 → Passed s t k i shared above within
-      → complement s t ≡ (has (bitAnd (bitAnd shared (2 ^ 64 - 1 - above)) (2 ^ 64 - 1 - within)) k && agree s t)
+  passed-told : (i shared above within : ℕ) → length s ≤ i → above < 2 ^ wordBits → within < 2 ^ wordBits → Passed s t k i shared above within
+      → complement s t ≡ (has (bitAnd (bitAnd shared (2 ^ wordBits - 1 - above)) (2 ^ wordBits - 1 - within)) k && agree s t)
   unfolding both bothIn only
   passed-told i shared above within all fa fw p =
       let es : drop i s ≡ [] = end s i all in
@@ -127,10 +128,10 @@ module _ (s t : List ℕ) (k : ℕ) (same : length s ≡ length t) (small : k < 
       let sh : has shared k ≡ bothIn s t = sym (ap₂ (λ (u v : List ℕ). has shared k || bothIn u v) es et ∙ none (has shared k)) ∙ p .shares in
       let fi : not (has above k) ≡ only s t = sym (ap₂ (λ (u v : List ℕ). not (has above k) || only u v) es et ∙ none (not (has above k))) ∙ p .first in
       let se : not (has within k) ≡ only t s = sym (ap₂ (λ (u v : List ℕ). not (has within k) || only u v) et es ∙ none (not (has within k))) ∙ p .second in
-      let two : has (bitAnd shared (2 ^ 64 - 1 - above)) k ≡ (bothIn s t && only s t) =
-      has-both shared (2 ^ 64 - 1 - above) k ∙ ap₂ (λ (a b : Bool). a && b) sh (has-lacked 64 above k fa small ∙ fi) in
-      let three : has (bitAnd (bitAnd shared (2 ^ 64 - 1 - above)) (2 ^ 64 - 1 - within)) k ≡ ((bothIn s t && only s t) && only t s) =
-      has-both (bitAnd shared (2 ^ 64 - 1 - above)) (2 ^ 64 - 1 - within) k ∙ ap₂ (λ (a b : Bool). a && b) two (has-lacked 64 within k fw small ∙ se) in
+      let two : has (bitAnd shared (2 ^ wordBits - 1 - above)) k ≡ (bothIn s t && only s t) =
+      has-both shared (2 ^ wordBits - 1 - above) k ∙ ap₂ (λ (a b : Bool). a && b) sh (has-lacked wordBits above k fa small ∙ fi) in
+      let three : has (bitAnd (bitAnd shared (2 ^ wordBits - 1 - above)) (2 ^ wordBits - 1 - within)) k ≡ ((bothIn s t && only s t) && only t s) =
+      has-both (bitAnd shared (2 ^ wordBits - 1 - above)) (2 ^ wordBits - 1 - within) k ∙ ap₂ (λ (a b : Bool). a && b) two (has-lacked wordBits within k fw small ∙ se) in
       complement-filled s t same
       ∙ told-case (bothIn s t) (only s t) (only t s) (agree s t)
       ∙ ap (λ (b : Bool). b && agree s t) (sym three)
@@ -147,27 +148,27 @@ module _ (row columns : List ℕ) where
   passed-start rows seen k h = passed-none row (getD rows k []) k (sym (seen .wide k h)) (omega (arith, seen .few))
 
   module _ (i shared above within : ℕ) where
-    pub passed-turn : (filled empty : ℕ) → i < length row → filled < 2 ^ 64 → filled ≡ getD columns i 0 → empty ≡ blankOf (getD row i 0)
+    pub passed-turn : (filled empty : ℕ) → i < length row → filled < 2 ^ wordBits → filled ≡ getD columns i 0 → empty ≡ blankOf (getD row i 0)
         → PassedTo row columns i shared above within
-        → PassedTo row columns (i + 1) (bitOr shared (bitAnd filled (2 ^ 64 - 1 - empty))) (bitAnd above (bitOr filled empty))
-        (bitAnd within (2 ^ 64 - 1 - bitAnd filled empty))
+        → PassedTo row columns (i + 1) (bitOr shared (bitAnd filled (2 ^ wordBits - 1 - empty))) (bitAnd above (bitOr filled empty))
+        (bitAnd within (2 ^ wordBits - 1 - bitAnd filled empty))
     passed-turn filled empty more fits ef ee inv rows seen k h =
         let x = getD row i 0 in
-        let small : k < 64 = omega (arith, seen .few) in
+        let small : k < wordBits = omega (arith, seen .few) in
         let column : filled ≡ filledIn rows i = ef ∙ seen .filled .marks i more in
-        let fe : empty < 2 ^ 64 = rw ee (blank-fits x) in
+        let fe : empty < 2 ^ wordBits = rw ee (blank-fits x) in
         passed-more row (getD rows k []) k (sym (seen .wide k h)) small i shared above within (inv rows seen k h) filled empty more fits fe
         (ap (λ (w : ℕ). has w k) column ∙ filled-has rows i k h)
         (ap (λ (w : ℕ). has w k) ee ∙ has-blank x k small)
 
-    pub passed-end : length row ≤ i → above < 2 ^ 64 → within < 2 ^ 64 → PassedTo row columns i shared above within
-        → Crossing row columns (bitAnd (bitAnd shared (2 ^ 64 - 1 - above)) (2 ^ 64 - 1 - within))
+    pub passed-end : length row ≤ i → above < 2 ^ wordBits → within < 2 ^ wordBits → PassedTo row columns i shared above within
+        → Crossing row columns (bitAnd (bitAnd shared (2 ^ wordBits - 1 - above)) (2 ^ wordBits - 1 - within))
     passed-end all fa fw inv rows seen k h =
         passed-told row (getD rows k []) k (sym (seen .wide k h)) (omega (arith, seen .few)) i shared above within all fa fw (inv rows seen k h)
 
 -- ---- the rows one after the other
 
-pub rows-seen : (c n : ℕ) (w columns : List ℕ) → n ≤ 64 → n * c ≤ length w → ColumnsOf (rowsIn c n w) c columns → Seen (rowsIn c n w) c columns
+pub rows-seen : (c n : ℕ) (w columns : List ℕ) → n ≤ maxUnionRows → n * c ≤ length w → ColumnsOf (rowsIn c n w) c columns → Seen (rowsIn c n w) c columns
 rows-seen c n w columns few fits o = record {
   few = omega (arith, rows-length c n w);
   wide = λ k h. let l : k < n = omega (arith, rows-length c n w) in ap length (rows-at c n k w l) ∙ row-length c n k w fits l;

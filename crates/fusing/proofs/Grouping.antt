@@ -11,7 +11,7 @@ use lib.ListN.{length, getD, set, replicate, getD-replicate}
 use lib.Seq.{getD-set-same, getD-set-other}
 use borrow.Author.Tests.{eqb-true, eqb-false, eq-eqb, ne-eqb}
 use Rattle.definitions.proofs.Bools.{bool-cases, clash, not-so, or-cases, or-l, or-r, and-l, and-r}
-use Rattle.bitsets.specs.Bits.{has, withRow, Inside, withoutLowest}
+use Rattle.bitsets.specs.Bits.{wordBits, has, withRow, Inside, withoutLowest}
 use Rattle.bitsets.proofs.Bits.{bit-at, Lowest, has-none, has-with, rest-in, rest-of}
 use Rattle.fusing.specs.Groups.{bucketCount, LeaderOf, Groups}
 use Rattle.fusing.proofs.Rests.{passed, passed-in, passed-none, passed-all, among-more, passed-next, passed-else, passed-more, passed-other, passed-old, passed-cases}
@@ -47,13 +47,13 @@ module _ (cell : ℕ → ℕ) (x rows : ℕ) where
 
 -- ---- bit j joined to a word of a list
 
-bit-has : (w j k : ℕ) → j < 64 → has (bitOr w ((1 * 2 ^ j) % 2 ^ 64)) k ≡ (has w k || eqb k j)
+bit-has : (w j k : ℕ) → j < wordBits → has (bitOr w ((1 * 2 ^ j) % 2 ^ wordBits)) k ≡ (has w k || eqb k j)
 unfolding withRow
-bit-has w j k h = ap (λ (x : ℕ). has (bitOr w x) k) (bit-at 64 j h) ∙ has-with w j k
+bit-has w j k h = ap (λ (x : ℕ). has (bitOr w x) k) (bit-at wordBits j h) ∙ has-with w j k
 
-one-has : (j k : ℕ) → j < 64 → has ((1 * 2 ^ j) % 2 ^ 64) k ≡ eqb k j
+one-has : (j k : ℕ) → j < wordBits → has ((1 * 2 ^ j) % 2 ^ wordBits) k ≡ eqb k j
 unfolding withRow
-one-has j k h = ap (λ (x : ℕ). has x k) (sym (or-zero-l ((1 * 2 ^ j) % 2 ^ 64))) ∙ bit-has 0 j k h ∙ ap (λ (b : Bool). b || eqb k j) (has-none k)
+one-has j k h = ap (λ (x : ℕ). has x k) (sym (or-zero-l ((1 * 2 ^ j) % 2 ^ wordBits))) ∙ bit-has 0 j k h ∙ ap (λ (b : Bool). b || eqb k j) (has-none k)
 
 -- ---- the rows are grouped
 
@@ -126,7 +126,7 @@ module _ {cell : ℕ → ℕ} {filled rest : ℕ} {buckets leaders equal : List 
   bucket-more : (d k : ℕ) → d < bucketCount → has (getD buckets d 0) k ≡ true → passed filled (withoutLowest rest) k ≡ true
   bucket-more d k h m = passed-old filled rest j (inv .among) low k (inv .held d k h m)
 
-  module _ (small : j < 64) (space : j < length leaders) where
+  module _ (small : j < wordBits) (space : j < length leaders) where
     -- the next row's leader is r
     led-more : (r : ℕ) (buckets' : List ℕ) → ((k : ℕ) → leads cell buckets k ≡ true → leads cell buckets' k ≡ true) → leads cell buckets' r ≡ true → cell r ≡ cell j
         → (i : ℕ) → passed filled (withoutLowest rest) i ≡ true
@@ -144,10 +144,10 @@ module _ {cell : ℕ → ℕ} {filled rest : ℕ} {buckets leaders equal : List 
     -- no group has its number
     module _ (r : ℕ) (leader : LeaderOf cell (cell j) (getD buckets digit 0) j r) (here : r ≡ j) (room : j < length equal) (size : length buckets ≡ bucketCount) where
       abbrev buckets' : List ℕ
-      buckets' = set buckets digit (bitOr (getD buckets digit 0) ((1 * 2 ^ j) % 2 ^ 64))
+      buckets' = set buckets digit (bitOr (getD buckets digit 0) ((1 * 2 ^ j) % 2 ^ wordBits))
 
       abbrev equal' : List ℕ
-      equal' = set equal j ((1 * 2 ^ j) % 2 ^ 64)
+      equal' = set equal j ((1 * 2 ^ j) % 2 ^ wordBits)
 
       other-cell : (k : ℕ) → passed filled rest k ≡ true → cell k ≡ cell j → ⊥
       other-cell k p e =
@@ -157,11 +157,11 @@ module _ {cell : ℕ → ℕ} {filled rest : ℕ} {buckets leaders equal : List 
 
       bucket-here : (k : ℕ) → has (getD buckets' digit 0) k ≡ (has (getD buckets digit 0) k || eqb k j)
       bucket-here k =
-          ap (λ (x : ℕ). has x k) (getD-set-same buckets digit (bitOr (getD buckets digit 0) ((1 * 2 ^ j) % 2 ^ 64)) 0 (omega (arith, digit-small (cell j))))
+          ap (λ (x : ℕ). has x k) (getD-set-same buckets digit (bitOr (getD buckets digit 0) ((1 * 2 ^ j) % 2 ^ wordBits)) 0 (omega (arith, digit-small (cell j))))
           ∙ bit-has (getD buckets digit 0) j k small
 
       bucket-else : (d k : ℕ) → (d ≡ digit → ⊥) → has (getD buckets' d 0) k ≡ has (getD buckets d 0) k
-      bucket-else d k n = ap (λ (x : ℕ). has x k) (getD-set-other buckets digit d (bitOr (getD buckets digit 0) ((1 * 2 ^ j) % 2 ^ 64)) 0 n)
+      bucket-else d k n = ap (λ (x : ℕ). has x k) (getD-set-other buckets digit d (bitOr (getD buckets digit 0) ((1 * 2 ^ j) % 2 ^ wordBits)) 0 n)
 
       bucket-cases : (d k : ℕ) → has (getD buckets' d 0) k ≡ true → (has (getD buckets d 0) k ≡ true) ⊎ (k ≡ j)
       bucket-cases d k m =
@@ -188,14 +188,14 @@ module _ {cell : ℕ → ℕ} {filled rest : ℕ} {buckets leaders equal : List 
       group-old : (k i : ℕ) → leads cell buckets k ≡ true → has (getD equal' k 0) i ≡ (passed filled (withoutLowest rest) i && eqb (cell k) (cell i))
       group-old k i m =
           let p : passed filled rest k ≡ true = leader-passed k m in
-          ap (λ (x : ℕ). has x i) (getD-set-other equal j k ((1 * 2 ^ j) % 2 ^ 64) 0 (passed-other filled rest j (inv .among) low k p))
+          ap (λ (x : ℕ). has x i) (getD-set-other equal j k ((1 * 2 ^ j) % 2 ^ wordBits) 0 (passed-other filled rest j (inv .among) low k p))
           ∙ inv .group k i m
           ∙ group-else (passed filled rest i) (passed filled (withoutLowest rest) i) (eqb i j) (eqb (cell k) (cell i)) (passed-more filled rest j (inv .among) low i)
           (λ e. ne-eqb (cell k) (cell i) (λ q. other-cell k p (q ∙ ap cell (eqb-true i j e))))
 
       group-own : (i : ℕ) → has (getD equal' j 0) i ≡ (passed filled (withoutLowest rest) i && eqb (cell j) (cell i))
       group-own i =
-          ap (λ (x : ℕ). has x i) (getD-set-same equal j ((1 * 2 ^ j) % 2 ^ 64) 0 room)
+          ap (λ (x : ℕ). has x i) (getD-set-same equal j ((1 * 2 ^ j) % 2 ^ wordBits) 0 room)
           ∙ one-has j i small
           ∙ bool-cases (eqb i j)
           (λ e.
@@ -229,7 +229,7 @@ module _ {cell : ℕ → ℕ} {filled rest : ℕ} {buckets leaders equal : List 
     -- the group of r has its number
     module _ (r : ℕ) (leader : LeaderOf cell (cell j) (getD buckets digit 0) j r) (d : r ≡ j → ⊥) (room : r < length equal) where
       abbrev grown : List ℕ
-      grown = set equal r (bitOr (getD equal r 0) ((1 * 2 ^ j) % 2 ^ 64))
+      grown = set equal r (bitOr (getD equal r 0) ((1 * 2 ^ j) % 2 ^ wordBits))
 
       same : cell r ≡ cell j
       same = leader .found d .1
@@ -239,7 +239,7 @@ module _ {cell : ℕ → ℕ} {filled rest : ℕ} {buckets leaders equal : List 
 
       group-it : (i : ℕ) → has (getD grown r 0) i ≡ (passed filled (withoutLowest rest) i && eqb (cell r) (cell i))
       group-it i =
-          ap (λ (x : ℕ). has x i) (getD-set-same equal r (bitOr (getD equal r 0) ((1 * 2 ^ j) % 2 ^ 64)) 0 room)
+          ap (λ (x : ℕ). has x i) (getD-set-same equal r (bitOr (getD equal r 0) ((1 * 2 ^ j) % 2 ^ wordBits)) 0 room)
           ∙ bit-has (getD equal r 0) j i small
           ∙ ap (λ (b : Bool). b || eqb i j) (inv .group r i leads-it)
           ∙ group-with (passed filled rest i) (passed filled (withoutLowest rest) i) (eqb i j) (eqb (cell r) (cell i)) (passed-more filled rest j (inv .among) low i)
@@ -247,7 +247,7 @@ module _ {cell : ℕ → ℕ} {filled rest : ℕ} {buckets leaders equal : List 
 
       group-other : (k i : ℕ) → leads cell buckets k ≡ true → (k ≡ r → ⊥) → has (getD grown k 0) i ≡ (passed filled (withoutLowest rest) i && eqb (cell k) (cell i))
       group-other k i m n =
-          ap (λ (x : ℕ). has x i) (getD-set-other equal r k (bitOr (getD equal r 0) ((1 * 2 ^ j) % 2 ^ 64)) 0 n)
+          ap (λ (x : ℕ). has x i) (getD-set-other equal r k (bitOr (getD equal r 0) ((1 * 2 ^ j) % 2 ^ wordBits)) 0 n)
           ∙ inv .group k i m
           ∙ group-else (passed filled rest i) (passed filled (withoutLowest rest) i) (eqb i j) (eqb (cell k) (cell i)) (passed-more filled rest j (inv .among) low i)
           (λ e. ne-eqb (cell k) (cell i) (λ q. n (inv .one k r m leads-it (q ∙ ap cell (eqb-true i j e) ∙ sym same))))

@@ -9,11 +9,12 @@ use lib.Dec.{eqb}
 use lib.ListN.{length, getD, set, length-set}
 use lib.Seq.{getD-set-same, getD-set-other}
 use borrow.Author.Tests.{eqb-true, eqb-false}
+use Rattle.definitions.specs.Limits.{maxUnionRows}
 use Rattle.definitions.specs.Word.{isFilled}
 use Rattle.definitions.specs.Image.{rowsIn}
 use Rattle.definitions.proofs.Bools.{bool-cases, clash}
 use Rattle.lists.proofs.Flat.{rows-length, rows-at}
-use Rattle.bitsets.specs.Bits.{has, both, withoutLowest}
+use Rattle.bitsets.specs.Bits.{wordBits, has, both, withoutLowest}
 use Rattle.cliques.specs.Graph.{adjacent}
 use Rattle.bitsets.proofs.Bits.{Lowest, has-both, has-or}
 use Rattle.patterns.specs.Columns.{ColumnsOf}
@@ -30,7 +31,7 @@ use Rattle.fusing.proofs.Agreeing.{cellsAgree, AgreesFrom, agree-turn, 
 
 -- what a row of the column keeps of a word
 abbrev kept : ℕ → List ℕ → List ℕ → ℕ → ℕ → ℕ
-kept filled leaders equal j word = bitAnd word (bitOr (getD equal (getD leaders j 0) 0) (2 ^ 64 - 1 - filled))
+kept filled leaders equal j word = bitAnd word (bitOr (getD equal (getD leaders j 0) 0) (2 ^ wordBits - 1 - filled))
 
 -- the words of the rows that are not in the rest are narrowed
 pub record Narrowing (filled : ℕ) (leaders equal found : List ℕ) (rest : ℕ) (now : List ℕ) : Type 0 where
@@ -74,16 +75,16 @@ module _ (filled : ℕ) (leaders equal found : List ℕ) where
             getD-set-other now j i v 0 d ∙ inv .left i (sym (passed-else filled rest j (inv .among) low i d) ∙ h));
       }
 
-  pub narrow-end : (rest : ℕ) (now : List ℕ) → rest ≡ 0 → filled < 2 ^ 64 → Narrowing filled leaders equal found rest now
+  pub narrow-end : (rest : ℕ) (now : List ℕ) → rest ≡ 0 → filled < 2 ^ wordBits → Narrowing filled leaders equal found rest now
       → NarrowedBy filled leaders equal found now
   unfolding both
   narrow-end rest now e fits inv = record {
     held = λ j k h small.
         let group = getD equal (getD leaders j 0) 0 in
         ap (λ (x : ℕ). has x k) (inv .done j (passed-all filled rest j e ∙ h))
-        ∙ has-both (getD found j 0) (bitOr group (2 ^ 64 - 1 - filled)) k
+        ∙ has-both (getD found j 0) (bitOr group (2 ^ wordBits - 1 - filled)) k
         ∙ ap (λ (b : Bool). adjacent found j k && b)
-        (has-or group (2 ^ 64 - 1 - filled) k ∙ ap (λ (b : Bool). has group k || b) (has-lacked 64 filled k fits small));
+        (has-or group (2 ^ wordBits - 1 - filled) k ∙ ap (λ (b : Bool). has group k || b) (has-lacked wordBits filled k fits small));
     others = λ j h. inv .left j (passed-all filled rest j e ∙ h);
   }
 
@@ -111,7 +112,7 @@ alone true false g = refl
 alone false true g = refl
 alone false false g = refl
 
-module _ (c n : ℕ) (w columns found : List ℕ) (few : n ≤ 64) (fits : n * c ≤ length w) (o : ColumnsOf (rowsIn c n w) c columns) where
+module _ (c n : ℕ) (w columns found : List ℕ) (few : n ≤ maxUnionRows) (fits : n * c ≤ length w) (o : ColumnsOf (rowsIn c n w) c columns) where
   abbrev rows : List (List ℕ)
   rows = rowsIn c n w
 

@@ -22,7 +22,7 @@ use Rattle.definitions.proofs.Rows.{Filled, CellAgrees, filled-cell, empty-cell
 use Rattle.definitions.proofs.Sets.{Holds, Complementing, holds-within, listed-is}
 use Rattle.definitions.proofs.Joined.{members-are, members-agree, joined-some, joined-empty, joined-length}
 use Rattle.lists.proofs.Flat.{rows-length, rows-at, rows-wide}
-use Rattle.bitsets.specs.Bits.{has, both, lowest}
+use Rattle.bitsets.specs.Bits.{wordBits, has, both, lowest}
 use Rattle.bitsets.proofs.Bits.{Lowest, has-both, has-none, has-bits, lowest-one, trailing-lowest, is-lowest}
 use Rattle.patterns.specs.Columns.{filledIn, ColumnsOf}
 use Rattle.patterns.proofs.FilledRows.{filled-has}
@@ -36,14 +36,14 @@ module _ (width : ℕ) (cells : List ℕ) (column set : ℕ) where
   unfolding pickCell
   pick-none e = sym (rw (eq-eqb set 0 e))
 
-  module _ (some : set ≡ 0 → ⊥) (fits : set < 2 ^ 64) where
-    pub first-row : Lowest set (trailingZeros 64 set)
-    first-row = trailing-lowest 64 set some fits
+  module _ (some : set ≡ 0 → ⊥) (fits : set < 2 ^ wordBits) where
+    pub first-row : Lowest set (trailingZeros wordBits set)
+    first-row = trailing-lowest wordBits set some fits
 
-    pub pick-first : getD cells (trailingZeros 64 set * width + column) 0 ≡ pickCell width cells column set
+    pub pick-first : getD cells (trailingZeros wordBits set * width + column) 0 ≡ pickCell width cells column set
     unfolding pickCell
     pick-first =
-        ap (λ (k : ℕ). getD cells (k * width + column) 0) (lowest-one set (trailingZeros 64 set) (lowest set) first-row (is-lowest set some))
+        ap (λ (k : ℕ). getD cells (k * width + column) 0) (lowest-one set (trailingZeros wordBits set) (lowest set) first-row (is-lowest set some))
         ∙ sym (rw (ne-eqb set 0 some))
 
 -- ---- a row of such cells

@@ -7,7 +7,7 @@ use Prim.Native.Nat.{ℕ, _≤_, _<_}
 use lib.ListN.{length, getD}
 use Rattle.definitions.specs.Limits.{maxUnionRows}
 use Rattle.definitions.specs.ComplementUnion.{agree, complement, complementAt}
-use Rattle.bitsets.specs.Bits.{has}
+use Rattle.bitsets.specs.Bits.{wordBits, has}
 use Rattle.cliques.specs.Graph.{adjacent, Graph}
 use Rattle.patterns.specs.Columns.{ColumnsOf}
 
@@ -40,7 +40,7 @@ pub record CrossingRows (rows : List (List ℕ)) (neighbours : List ℕ) : Type 
 
 -- a row that is filled in a column keeps the neighbours of its group there, and those that are not filled; another row keeps its word
 pub record NarrowedBy (filled : ℕ) (leaders equal found neighbours : List ℕ) : Type 0 where
-  pub held : (j k : ℕ) → has filled j ≡ true → k < maxUnionRows
+  pub held : (j k : ℕ) → has filled j ≡ true → k < wordBits
       → adjacent neighbours j k ≡ (adjacent found j k && (has (getD equal (getD leaders j 0) 0) k || not (has filled k)))
   pub others : (j : ℕ) → has filled j ≡ false → getD neighbours j 0 ≡ getD found j 0
 

@@ -9,6 +9,7 @@ use native.Mathlib.Omega.{arith}
 use lib.Dec.{eqb}
 use lib.ListN.{length}
 use borrow.Author.Tests.{le-ltb, lt-ltb, le-leb, lt-leb, eq-eqb, ne-eqb, not-true, not-false}
+use Rattle.definitions.specs.Limits.{maxColumns}
 use Rattle.definitions.specs.Word.{idOf, isCell}
 use Rattle.definitions.specs.Lists.{all, distinct}
 use Rattle.definitions.specs.Image.{isColumn, columnCount, rowCount}
@@ -114,7 +115,7 @@ left2 : (c : tie.Else4) → number (past2 c) ≡ from3 (limit (past2 c)) (image 
 left2 c =
     let q = past2 c in
     let k = columns (c .before .before) in
-    let y : columnsFit (image q) ≡ true = rw (← k, le-leb 1 _ (c .before .if3 .left), le-leb _ 16 (c .if4 .left)) in
+    let y : columnsFit (image q) ≡ true = rw (← k, le-leb 1 _ (c .before .if3 .left), le-leb _ maxColumns (c .if4 .left)) in
     on-yes (number q) (columnsFit (image q)) 2 (from3 (limit q) (image q)) (left1 (c .before .before .before)) y
 
 left3 : (c : tie.Else5) → number (past3 c) ≡ from4 (image (past3 c))
@@ -178,7 +179,7 @@ returns-4 : tie.Need-returns-4
 returns-4 c =
     let q = at2 (c .before .before) in
     let k = columns (c .before .before) in
-    let n : columnsFit (image q) ≡ false = rw (← k, le-leb 1 _ (c .before .if3 .left), lt-leb _ 16 (c .if4 .taken)) in
+    let n : columnsFit (image q) ≡ false = rw (← k, le-leb 1 _ (c .before .if3 .left), lt-leb _ maxColumns (c .if4 .taken)) in
     on-no (number q) (columnsFit (image q)) 2 (from3 (limit q) (image q)) (left1 (c .before .before .before)) n
 
 rows-requires : tie.Need-rows-requires

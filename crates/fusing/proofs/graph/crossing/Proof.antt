@@ -5,13 +5,14 @@ use Prim.Native.Nat.{_-_, _^_, _<_, _≤_}
 use native.Mathlib.Omega.{arith}
 use lib.Bits.{bitAnd, bitOr, and-le-l}
 use lib.ListN.{length, getD}
+use Rattle.bitsets.specs.Bits.{wordBits}
 use Rattle.fusing.proofs.Crossing.{PassedTo, passed-start, passed-turn, passed-end}
 use Rattle.fusing.proofs.graph.crossing.Statement.{statement}
 use Rattle.fusing.proofs.graph.crossing.Tie as tie
 
 abbrev Inv-loop : tie.InvT-loop
 Inv-loop row columns shared₀ above₀ within₀ c₀ shared above within c =
-    (c ≤ length row) × (above < 2 ^ 64) × (within < 2 ^ 64) × PassedTo row columns c shared above within
+    (c ≤ length row) × (above < 2 ^ wordBits) × (within < 2 ^ wordBits) × PassedTo row columns c shared above within
 
 abbrev μ-loop : tie.MeasureT-loop
 μ-loop row columns shared₀ above₀ within₀ c₀ shared above within c = length row - c
@@ -48,7 +49,7 @@ loop-again c =
     let e = c .blank .result in (
       search needs,
       omega (arith, and-le-l (l .above) (bitOr f e), l .inv .1),
-      omega (arith, and-le-l (l .within) (2 ^ 64 - 1 - bitAnd f e), l .inv .2),
+      omega (arith, and-le-l (l .within) (2 ^ wordBits - 1 - bitAnd f e), l .inv .2),
       passed-turn (a .row .now) (a .columns .now) (l .c) (l .shared) (l .above) (l .within) f e (search needs)
           (omega (arith, c .before .before .shared-slice-known3 .given (l .c))) refl (c .blank .ensures) (l .inv .3),
     )

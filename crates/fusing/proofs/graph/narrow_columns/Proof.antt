@@ -5,6 +5,7 @@ use mathlib.Core.Bool.{true}
 use Prim.Native.Nat.{ℕ, _-_, _≤_, _<_}
 use native.Mathlib.Omega.{arith}
 use lib.ListN.{length, getD}
+use Rattle.definitions.specs.Limits.{maxUnionRows}
 use Rattle.definitions.specs.Image.{rowsIn}
 use Rattle.lists.proofs.Flat.{rows-length}
 use Rattle.bitsets.specs.Bits.{has}
@@ -16,7 +17,7 @@ use Rattle.fusing.proofs.graph.narrow_columns.Tie as tie
 
 abbrev Inv-loop : tie.InvT-loop
 Inv-loop cells n width columns neighbours₀ leaders₀ equal₀ c₀ neighbours leaders equal c =
-    (c ≤ width) × (length leaders ≡ 64) × (length equal ≡ 64) × (length neighbours ≡ length neighbours₀)
+    (c ≤ width) × (length leaders ≡ maxUnionRows) × (length equal ≡ maxUnionRows) × (length neighbours ≡ length neighbours₀)
     × NarrowedTo (rowsIn width n cells) neighbours₀ c neighbours
 
 abbrev μ-loop : tie.MeasureT-loop

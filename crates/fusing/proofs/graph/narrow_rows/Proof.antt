@@ -7,14 +7,14 @@ use native.Mathlib.Omega.{arith}
 use lib.Bits.{and-le-r}
 use lib.Count.{trailingZeros, trailing-le}
 use lib.ListN.{length, getD}
-use Rattle.bitsets.specs.Bits.{has}
+use Rattle.bitsets.specs.Bits.{wordBits, has}
 use Rattle.bitsets.proofs.Bits.{Lowest, trailing-lowest}
 use Rattle.fusing.proofs.Narrowing.{Narrowing, narrow-none, narrow-turn, narrow-end}
 use Rattle.fusing.proofs.graph.narrow_rows.Statement.{statement}
 use Rattle.fusing.proofs.graph.narrow_rows.Tie as tie
 
 abbrev Inv-loop : tie.InvT-loop
-Inv-loop filled leaders equal neighbours₀ rest₀ neighbours rest = (rest < 2 ^ 64) × Narrowing filled leaders equal neighbours₀ rest neighbours
+Inv-loop filled leaders equal neighbours₀ rest₀ neighbours rest = (rest < 2 ^ wordBits) × Narrowing filled leaders equal neighbours₀ rest neighbours
 
 abbrev μ-loop : tie.MeasureT-loop
 μ-loop filled leaders equal neighbours₀ rest₀ neighbours rest = rest
@@ -28,11 +28,11 @@ module _ (c : tie.In-loop Inv-loop μ-loop) where
   start = turn .before
 
   abbrev row : ℕ
-  row = trailingZeros 64 (turn .loop .rest)
+  row = trailingZeros wordBits (turn .loop .rest)
 
   -- the row that is narrowed is the lowest of the rest, and one of the column
   lowest-of : Lowest (turn .loop .rest) row
-  lowest-of = trailing-lowest 64 (turn .loop .rest) (c .loop-test .taken) (turn .loop .inv .0)
+  lowest-of = trailing-lowest wordBits (turn .loop .rest) (c .loop-test .taken) (turn .loop .inv .0)
 
   filled-row : has (start .args .filled) row ≡ true
   filled-row = turn .loop .inv .1 .among row (lowest-of .there)
@@ -54,7 +54,7 @@ loop-holds : tie.Need-loop-holds Inv-loop μ-loop
 loop-holds c = let a = c .args in (search needs, narrow-none (a .filled) (a .leaders .now) (a .equal .now) (a .neighbours .now))
 
 cast-j : tie.Need-cast-j Inv-loop μ-loop
-cast-j c = omega (arith, trailing-le 64 (c .before .loop .rest))
+cast-j c = omega (arith, trailing-le wordBits (c .before .loop .rest))
 
 mul-neighbours : tie.Need-mul-neighbours Inv-loop μ-loop
 mul-neighbours c = omega (arith, within c)

@@ -7,7 +7,7 @@ use native.Mathlib.Omega.{arith}
 use lib.Bits.{and-le-r, bitAnd}
 use lib.Count.{trailingZeros, trailing-le}
 use lib.ListN.{length, length-set, getD}
-use Rattle.bitsets.specs.Bits.{has}
+use Rattle.bitsets.specs.Bits.{wordBits, has}
 use Rattle.bitsets.proofs.Bits.{Lowest, trailing-lowest, digit-below}
 use Rattle.fusing.specs.Groups.{bucketCount, cellAt}
 use Rattle.fusing.proofs.Grouping.{Grouping, group-start, bucket-filled, next-outside, group-new, group-more, group-end}
@@ -16,7 +16,7 @@ use Rattle.fusing.proofs.groups.group_rows.Tie as tie
 
 abbrev Inv-loop : tie.InvT-loop
 Inv-loop cells width c filled leaders₀ equal₀ buckets₀ rest₀ leaders equal buckets rest =
-    (rest < 2 ^ 64) × (length leaders ≡ length leaders₀) × (length equal ≡ length equal₀) × (length buckets ≡ bucketCount)
+    (rest < 2 ^ wordBits) × (length leaders ≡ length leaders₀) × (length equal ≡ length equal₀) × (length buckets ≡ bucketCount)
     × Grouping (cellAt width cells c) filled rest buckets leaders equal
 
 abbrev μ-loop : tie.MeasureT-loop
@@ -32,17 +32,17 @@ module _ (c : tie.In-loop Inv-loop μ-loop) where
 
   -- the next row, and the column's cells
   abbrev row : ℕ
-  row = trailingZeros 64 (turn .loop .rest)
+  row = trailingZeros wordBits (turn .loop .rest)
 
   abbrev cell : ℕ → ℕ
   cell = cellAt (start .args .width) (start .args .cells .now) (start .args .c)
 
   -- the row is the lowest of the rest, and one of the column
   lowest-of : Lowest (turn .loop .rest) row
-  lowest-of = trailing-lowest 64 (turn .loop .rest) (c .loop-test .taken) (turn .loop .inv .0)
+  lowest-of = trailing-lowest wordBits (turn .loop .rest) (c .loop-test .taken) (turn .loop .inv .0)
 
-  small : row < 64
-  small = digit-below 64 (turn .loop .rest) row (turn .loop .inv .0) (lowest-of .there)
+  small : row < wordBits
+  small = digit-below wordBits (turn .loop .rest) row (turn .loop .inv .0) (lowest-of .there)
 
   filled-row : has (start .args .filled) row ≡ true
   filled-row = turn .loop .inv .4 .among row (lowest-of .there)
@@ -76,7 +76,7 @@ loop-holds c =
     (search needs, refl, refl, search needs, group-start (cellAt (a .width) (a .cells .now) (a .c)) (a .filled) (a .leaders .now) (a .equal .now))
 
 cast-j : tie.Need-cast-j Inv-loop μ-loop
-cast-j c = omega (arith, trailing-le 64 (c .before .loop .rest))
+cast-j c = omega (arith, trailing-le wordBits (c .before .loop .rest))
 
 mul-cell : tie.Need-mul-cell Inv-loop μ-loop
 mul-cell c = omega (arith, within c)

@@ -5,6 +5,7 @@ use native.Mathlib.Omega.{arith}
 use lib.Bits.{and-le-r}
 use lib.Count.{trailingZeros, trailing-le}
 use lib.ListN.{length}
+use Rattle.bitsets.specs.Bits.{wordBits}
 use Rattle.bitsets.proofs.Bits.{Lowest, trailing-lowest}
 use Rattle.fusing.specs.Groups.{cellAt}
 use Rattle.fusing.proofs.Grouping.{Seeking, seek-start, seek-turn, seek-found, seek-none}
@@ -12,7 +13,7 @@ use Rattle.fusing.proofs.groups.leader.Statement.{statement}
 use Rattle.fusing.proofs.groups.leader.Tie as tie
 
 abbrev Inv-loop : tie.InvT-loop
-Inv-loop cells width c cell rows j rest₀ rest = (rest < 2 ^ 64) × Seeking (cellAt width cells c) cell rows rest
+Inv-loop cells width c cell rows j rest₀ rest = (rest < 2 ^ wordBits) × Seeking (cellAt width cells c) cell rows rest
 
 abbrev μ-loop : tie.MeasureT-loop
 μ-loop cells width c cell rows j rest₀ rest = rest
@@ -26,11 +27,11 @@ module _ (c : tie.In-loop Inv-loop μ-loop) where
   start = turn .before
 
   abbrev row : ℕ
-  row = trailingZeros 64 (turn .loop .rest)
+  row = trailingZeros wordBits (turn .loop .rest)
 
   -- the row that is compared is the lowest of the rest, and its cell is there
   lowest-of : Lowest (turn .loop .rest) row
-  lowest-of = trailing-lowest 64 (turn .loop .rest) (c .loop-test .taken) (turn .loop .inv .0)
+  lowest-of = trailing-lowest wordBits (turn .loop .rest) (c .loop-test .taken) (turn .loop .inv .0)
 
   within : row * start .args .width + start .args .c < length (start .args .cells .now)
   within = start .pre .0 row (turn .loop .inv .1 .among row (lowest-of .there))
@@ -41,7 +42,7 @@ loop-holds c =
     (search needs, seek-start (cellAt (a .width) (a .cells .now) (a .c)) (a .cell) (a .rows))
 
 cast-k : tie.Need-cast-k Inv-loop μ-loop
-cast-k c = omega (arith, trailing-le 64 (c .before .loop .rest))
+cast-k c = omega (arith, trailing-le wordBits (c .before .loop .rest))
 
 mul-if1 : tie.Need-mul-if1 Inv-loop μ-loop
 mul-if1 c = omega (arith, within c)

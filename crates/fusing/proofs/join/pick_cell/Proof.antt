@@ -4,6 +4,7 @@ use Prim.Native.Nat.{_+_, _*_, _<_}
 use borrow.Author.Needs.{needs}
 use native.Mathlib.Omega.{arith}
 use lib.Count.{trailingZeros, trailing-le}
+use Rattle.bitsets.specs.Bits.{wordBits}
 use Rattle.fusing.proofs.Picks.{pick-none, first-row, pick-first}
 use Rattle.fusing.proofs.join.pick_cell.Statement.{statement}
 use Rattle.fusing.proofs.join.pick_cell.Tie as tie
@@ -12,13 +13,13 @@ returns : tie.Need-returns
 returns c = let a = c .before .args in pick-none (a .width) (a .cells .now) (a .column) (a .set) (c .if1 .taken)
 
 -- where the set has rows: its first row's cell is there
-within : (c : tie.Else1) → trailingZeros 64 (c .before .args .set) * c .before .args .width + c .before .args .column < length (c .before .args .cells .now)
+within : (c : tie.Else1) → trailingZeros wordBits (c .before .args .set) * c .before .args .width + c .before .args .column < length (c .before .args .cells .now)
 within c =
     let s = c .before .args in
-    c .before .pre (trailingZeros 64 (s .set)) (first-row (s .width) (s .cells .now) (s .column) (s .set) (c .if1 .left) (search needs) .there)
+    c .before .pre (trailingZeros wordBits (s .set)) (first-row (s .width) (s .cells .now) (s .column) (s .set) (c .if1 .left) (search needs) .there)
 
 cast-row : tie.Need-cast-row
-cast-row c = omega (arith, trailing-le 64 (c .before .args .set))
+cast-row c = omega (arith, trailing-le wordBits (c .before .args .set))
 
 mul-result : tie.Need-mul-result
 mul-result c = omega (arith, within c)
