@@ -20,7 +20,7 @@ pairNumber a b rest =
     (unless (imageNumber maxRows b) 1
     (unless (no (leb (length (unionIds a b)) maxColumns) 8) 2 rest))
 
--- document 01's accepted pair: "A pair with eight yeses to 1–8 is accepted."
+-- accepted pair, a term of document 01: "A pair with eight yeses to 1–8 is accepted."
 pub record Accepted (a b : List ℕ) : Type 0 where
   pub first : imageNumber maxRows a ≡ 0
   pub second : imageNumber maxRows b ≡ 0

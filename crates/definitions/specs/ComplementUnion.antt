@@ -34,13 +34,14 @@ share (x ∷ s) (y ∷ t) = (isFilled x && eqb x y) || share s t
 unfoldable pub complement : List ℕ → List ℕ → Bool
 complement s t = agree s t && (not (sameRow s t) && not (subsumes s t) && not (subsumes t s)) && share s t
 
--- A set of positions below n is a list of n marks, that of position 0 first.
+-- A set of positions below n is a list of n truth values, that of position 0 first: whether a position is in it.
 unfoldable pub contains : List Bool → ℕ → Bool
 contains [] k = false
-contains (m ∷ s) zero = m
-contains (m ∷ s) (suc k) = contains s k
+contains (b ∷ s) zero = b
+contains (b ∷ s) (suc k) = contains s k
 
--- "Of two sets, look at the smallest position that only one of them holds: the set with it comes first."
+-- set order, a term of document 01: "Of two sets, look at the smallest position that only one of them holds: the set with
+-- it comes first."
 unfoldable pub compareSet : List Bool → List Bool → Order
 compareSet [] [] = Same
 compareSet [] (m ∷ t) = Before
@@ -55,13 +56,14 @@ unfoldable pub subsets : ℕ → List (List Bool)
 subsets zero = [] ∷ []
 subsets (suc n) = map (λ s. true ∷ s) (subsets n) ++ map (λ s. false ∷ s) (subsets n)
 
--- over n positions, of which j and k complement each other where `near j k`
+-- over n positions, of which j and k complement each other where `adjacent j k`
 module _ (adjacent : ℕ → ℕ → Bool) (n : ℕ) where
   -- the position j complements every member of s
   unfoldable pub adjacentToAll : List Bool → ℕ → Bool
   adjacentToAll s j = allBelow n (λ k. not (contains s k) || adjacent j k)
 
-  -- "A complementing set is a non-empty set of positions in which every two different rows complement each other."
+  -- complementing set, a term of document 01: "A complementing set is a non-empty set of positions in which every two
+  -- different rows complement each other."
   unfoldable pub isComplementing : List Bool → Bool
   isComplementing s =
       not (allBelow n (λ k. not (contains s k)))
@@ -85,13 +87,14 @@ members rows [] = []
 members [] (m ∷ s) = []
 members (r ∷ rows) (m ∷ s) = cond m (r ∷ members rows s) (members rows s)
 
--- in each column the number that s has there, else that of t
+-- in each column the cell that s has there, else that of t
 unfoldable pub join : List ℕ → List ℕ → List ℕ
 join [] t = t
 join (x ∷ s) [] = x ∷ s
 join (x ∷ s) (y ∷ t) = cond (isFilled x) x y ∷ join s t
 
--- "The joined row of a set has, in each column, the number that some member has there, or empty."
+-- joined row, a term of document 01: "The joined row of a set has, in each column, the number that some member has there,
+-- or empty."
 unfoldable pub joinAll : List (List ℕ) → List ℕ
 joinAll [] = []
 joinAll (r ∷ rows) = join r (joinAll rows)
@@ -103,6 +106,7 @@ joined rows s = joinAll (members rows s)
 unfoldable pub unionSets : List (List ℕ) → List (List Bool)
 unionSets rows = maximalSets (complementAt rows) (length rows)
 
--- "The fused table holds the distinct joined rows, ascending. Subsumed joined rows stay in it."
+-- fused table, a term of document 01: "The fused table holds the distinct joined rows, ascending. Subsumed joined rows stay
+-- in it."
 unfoldable pub fusedRows : List (List ℕ) → List (List ℕ)
 fusedRows rows = ascending compareRow (map (joined rows) (unionSets rows))

@@ -1,4 +1,4 @@
--- Tests, sums and places over lists: the common words of the definitions.
+-- Tests, sums and indices over lists: the common words of the definitions.
 use Prim.Native.Nat.{ℕ, zero, suc, _+_}
 use mathlib.Core.Bool.{Bool, true, false, cond, not, _&&_, _||_}
 use mathlib.Core.List.{List, [], _∷_, _++_}
@@ -20,7 +20,7 @@ module _ {A : Type 0} where
   filter p [] = []
   filter p (x ∷ xs) = cond (p x) (x ∷ filter p xs) (filter p xs)
 
-  -- the place of the first element that passes the test, counted from 0; the length where none does
+  -- the index of the first element that passes the test, from 0; the length where none does
   unfoldable pub findIndex : (A → Bool) → List A → ℕ
   findIndex p [] = 0
   findIndex p (x ∷ xs) = cond (p x) 0 (suc (findIndex p xs))
@@ -30,11 +30,11 @@ module _ {A : Type 0} where
   distinct same [] = true
   distinct same (x ∷ xs) = not (any (same x) xs) && distinct same xs
 
-  -- the list without what stands at place k
+  -- the list without what stands at index k
   abbrev pub without : ℕ → List A → List A
   without k xs = take k xs ++ drop (suc k) xs
 
--- the test passes at every number below n
+-- the test passes at every index below n
 unfoldable pub allBelow : ℕ → (ℕ → Bool) → Bool
 allBelow zero p = true
 allBelow (suc n) p = allBelow n p && p n

@@ -32,6 +32,6 @@ unfoldable pub tries : List ℕ → List (List ℕ) → ℕ
 tries t [] = 0
 tries t (s ∷ others) = suc (cond (subsumes s t) 0 (tries t others))
 
--- "the number of pairs tried", for each row of T
+-- the pairs tried, a term of document 01: "the number of pairs tried", for each row of T
 unfoldable pub pairsTried : List (List ℕ) → ℕ
 pairsTried rows = sumBelow (length rows) (λ k. tries (getD rows k []) (without k rows))

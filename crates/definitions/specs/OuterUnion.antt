@@ -41,6 +41,7 @@ widened union ids row = map (cellIn ids row) union
 unfoldable pub widenedRows : List ℕ → List ℕ → List (List ℕ)
 widenedRows union image = map (widened union (imageIds image)) (imageRows image)
 
--- "T is the list of distinct rows, ascending"; a position is a row's place in T, from 0
+-- T, a term of document 01: "T is the list of distinct rows, ascending". A position, its term too, is the index of a row
+-- in T, from 0.
 unfoldable pub unionRows : List ℕ → List ℕ → List (List ℕ)
 unionRows a b = ascending compareRow (widenedRows (unionIds a b) a ++ widenedRows (unionIds a b) b)

@@ -29,7 +29,7 @@ wordMarks = 30
 abbrev pub markAt : List ℕ → ℕ → Bool
 markAt words p = eqb (getD words (p / wordMarks) 0 / 2 ^ (p % wordMarks) % 2) 1
 
--- a record's marks of n positions
+-- a record's marks of n positions, as a set
 unfoldable pub marksIn : ℕ → List ℕ → List Bool
 marksIn n words = below n (markAt words)
 

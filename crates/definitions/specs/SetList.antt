@@ -8,7 +8,7 @@ use Rattle.definitions.specs.Lists.{findIndex}
 use Rattle.definitions.specs.Word.{wordOf, headerWord}
 use Rattle.definitions.specs.ComplementUnion.{sameRow, unionSets, joined, fusedRows}
 
--- a set as a number: bit k marks position k
+-- a set as bits of a number: bit k says whether position k is in it
 unfoldable pub bits : List Bool → ℕ
 bits [] = 0
 bits (m ∷ s) = cond m 1 0 + 2 * bits s

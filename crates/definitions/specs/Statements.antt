@@ -1,11 +1,12 @@
--- The words in which theorems over the definitions are stated: an element stands in a list, a list is strictly ascending, a comparison is a strict total order.
+-- The words in which theorems over the definitions are stated: an element is a member of a list, a list is strictly ascending, a comparison
+-- is a strict total order.
 use mathlib.Core.Path.{_≡_}
 use mathlib.Core.Logic.{_⊎_}
 use mathlib.Core.List.{List, [], _∷_}
 use Rattle.definitions.specs.declared.Order.{Order}
 use Rattle.definitions.specs.declared.Order.the-variants.{Before, Same, After}
 
--- a stands in the list
+-- a is a member of the list
 abbrev pub Member : {A : Type 0} → A → List A → Type 0
 Member a [] = ⊥
 Member a (b ∷ rest) = (a ≡ b) ⊎ Member a rest
