@@ -97,22 +97,6 @@ returns-2 c =
 pub fusion-complement-union-spec : {M : Type 1} → statement M
 fusion-complement-union-spec =
     tie.close
-    (tie.spec
-    complement-union-requires
-    enum-known-rows
-    cast-t20
-    cast-t21
-    cast-t22
-    cast-t23
-    cast-t24
-    put-words-requires
-    enum-known-number
-    put-refusal-requires
-    same-length
-    same-length-2
-    same-length-3
-    returns
-    same-length-4
-    same-length-5
-    same-length-6
-    returns-2)
+    (tie.spec complement-union-requires enum-known-rows cast-t20 cast-t21 cast-t22 cast-t23 cast-t24 put-words-requires
+    enum-known-number put-refusal-requires same-length same-length-2 same-length-3 returns same-length-4 same-length-5
+    same-length-6 returns-2)

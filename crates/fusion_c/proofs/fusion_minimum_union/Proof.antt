@@ -87,19 +87,5 @@ returns-2 c =
 pub fusion-minimum-union-spec : {M : Type 1} → statement M
 fusion-minimum-union-spec =
     tie.close
-    (tie.spec
-    minimum-union-requires
-    enum-known-rows
-    cast-t16
-    cast-t17
-    cast-t18
-    cast-t19
-    put-words-requires
-    enum-known-number
-    put-refusal-requires
-    same-length
-    same-length-2
-    returns
-    same-length-3
-    same-length-4
-    returns-2)
+    (tie.spec minimum-union-requires enum-known-rows cast-t16 cast-t17 cast-t18 cast-t19 put-words-requires enum-known-number
+    put-refusal-requires same-length same-length-2 returns same-length-3 same-length-4 returns-2)

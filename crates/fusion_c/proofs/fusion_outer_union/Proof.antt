@@ -84,18 +84,5 @@ returns-2 c =
 pub fusion-outer-union-spec : {M : Type 1} → statement M
 fusion-outer-union-spec =
     tie.close
-    (tie.spec
-    outer-union-requires
-    enum-known-rows
-    cast-t15
-    cast-t16
-    cast-t17
-    put-words-requires
-    enum-known-number
-    put-refusal-requires
-    same-length
-    same-length-2
-    returns
-    same-length-3
-    same-length-4
-    returns-2)
+    (tie.spec outer-union-requires enum-known-rows cast-t15 cast-t16 cast-t17 put-words-requires enum-known-number
+    put-refusal-requires same-length same-length-2 returns same-length-3 same-length-4 returns-2)

@@ -46,14 +46,5 @@ returns c = all-end isCell (c .before .before .before .args .w .now) (c .before 
 pub all-cells-spec : {M : Type 1} → statement M
 all-cells-spec =
     tie.close
-    (tie.spec
-    Inv-loop
-    μ-loop
-    loop-holds
-    mul-is-cell
-    shared-slice-read-is-cell
-    is-cell-requires
-    add-i
-    loop-less
-    loop-again
+    (tie.spec Inv-loop μ-loop loop-holds mul-is-cell shared-slice-read-is-cell is-cell-requires add-i loop-less loop-again
     returns)

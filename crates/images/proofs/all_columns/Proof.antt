@@ -46,14 +46,5 @@ returns c = all-end isColumn (c .before .before .before .args .w .now) (c .befor
 pub all-columns-spec : {M : Type 1} → statement M
 all-columns-spec =
     tie.close
-    (tie.spec
-    Inv-loop
-    μ-loop
-    loop-holds
-    mul-is-column
-    shared-slice-read-is-column
-    is-column-requires
-    add-i
-    loop-less
-    loop-again
+    (tie.spec Inv-loop μ-loop loop-holds mul-is-column shared-slice-read-is-column is-column-requires add-i loop-less loop-again
     returns)

@@ -276,36 +276,8 @@ returns-10 c =
 pub check-image-spec : {M : Type 1} → statement M
 check-image-spec =
     tie.close
-    (tie.spec
-    returns
-    shared-slice-read-h
-    is-header-requires
-    returns-2
-    columns-requires
-    cast-columns
-    returns-3
-    returns-4
-    rows-requires
-    returns-5
-    add-cells
-    cast-if6
-    mul-if6
-    add-if6
-    returns-6
-    sub-all-columns
-    part-all-columns-start
-    part-all-columns-end
-    all-columns-requires
-    returns-7
-    sub-distinct-ids
-    part-distinct-ids-start
-    part-distinct-ids-end
-    distinct-ids-requires
-    returns-8
-    mul-all-cells
-    sub-all-cells
-    part-all-cells-start
-    part-all-cells-end
-    all-cells-requires
-    returns-9
-    returns-10)
+    (tie.spec returns shared-slice-read-h is-header-requires returns-2 columns-requires cast-columns returns-3 returns-4
+    rows-requires returns-5 add-cells cast-if6 mul-if6 add-if6 returns-6 sub-all-columns part-all-columns-start
+    part-all-columns-end all-columns-requires returns-7 sub-distinct-ids part-distinct-ids-start part-distinct-ids-end
+    distinct-ids-requires returns-8 mul-all-cells sub-all-cells part-all-cells-start part-all-cells-end all-cells-requires
+    returns-9 returns-10)

@@ -79,20 +79,5 @@ returns-2 c = sym (distinct-end eqb idOf (c .before .before .before .args .w .no
 pub distinct-ids-spec : {M : Type 1} → statement M
 distinct-ids-spec =
     tie.close
-    (tie.spec
-    Inv-loop
-    μ-loop
-    loop-holds
-    mul-id
-    shared-slice-read-id
-    id-requires
-    add-i
-    mul-has-id
-    sub-has-id
-    part-has-id-start
-    part-has-id-end
-    has-id-requires
-    returns
-    loop-less
-    loop-again
-    returns-2)
+    (tie.spec Inv-loop μ-loop loop-holds mul-id shared-slice-read-id id-requires add-i mul-has-id sub-has-id part-has-id-start
+    part-has-id-end has-id-requires returns loop-less loop-again returns-2)

@@ -58,4 +58,5 @@ returns c =
 
 pub has-id-spec : {M : Type 1} → statement M
 has-id-spec =
-    tie.close (tie.spec Inv-loop μ-loop loop-holds mul-id shared-slice-read-id id-requires add-i loop-less loop-again returns)
+    tie.close
+    (tie.spec Inv-loop μ-loop loop-holds mul-id shared-slice-read-id id-requires add-i loop-less loop-again returns)

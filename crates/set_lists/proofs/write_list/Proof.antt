@@ -132,22 +132,6 @@ returns c =
 pub write-list-spec : {M : Type 1} → statement M
 write-list-spec =
     tie.close
-    (tie.spec
-    Inv-loop
-    μ-loop
-    cast-header-word
-    cast-header-word-2
-    header-word-requires
-    slice-write-buffer
-    loop-holds
-    mul-write-record
-    shared-slice-read-write-record
-    mul-write-record-2
-    shared-slice-read-write-record-2
-    write-record-requires
-    add-at
-    add-k
-    loop-less
-    loop-again
-    same-length
-    returns)
+    (tie.spec Inv-loop μ-loop cast-header-word cast-header-word-2 header-word-requires slice-write-buffer loop-holds
+    mul-write-record shared-slice-read-write-record mul-write-record-2 shared-slice-read-write-record-2 write-record-requires
+    add-at add-k loop-less loop-again same-length returns)

@@ -84,20 +84,5 @@ returns c =
 pub write-record-spec : {M : Type 1} → statement M
 write-record-spec =
     tie.close
-    (tie.spec
-    Inv-loop
-    μ-loop
-    loop-holds
-    mark-word-requires
-    add-buffer
-    mul-buffer
-    slice-write-buffer
-    add-i
-    loop-less
-    loop-again
-    word-of-requires
-    add-buffer-2
-    mul-buffer-2
-    slice-write-buffer-2
-    same-length
-    returns)
+    (tie.spec Inv-loop μ-loop loop-holds mark-word-requires add-buffer mul-buffer slice-write-buffer add-i loop-less loop-again
+    word-of-requires add-buffer-2 mul-buffer-2 slice-write-buffer-2 same-length returns)

@@ -101,20 +101,5 @@ returns c =
 pub cross-rows-spec : {M : Type 1} → statement M
 cross-rows-spec =
     tie.close
-    (tie.spec
-    Inv-loop
-    μ-loop
-    loop-holds
-    add-next
-    mul-crossing
-    sub-crossing
-    part-crossing-start
-    part-crossing-end
-    crossing-requires
-    mul-neighbours
-    slice-write-neighbours
-    add-j
-    loop-less
-    loop-again
-    same-length
-    returns)
+    (tie.spec Inv-loop μ-loop loop-holds add-next mul-crossing sub-crossing part-crossing-start part-crossing-end
+    crossing-requires mul-neighbours slice-write-neighbours add-j loop-less loop-again same-length returns)

@@ -63,16 +63,5 @@ returns c =
 pub crossing-spec : {M : Type 1} → statement M
 crossing-spec =
     tie.close
-    (tie.spec
-    Inv-loop
-    μ-loop
-    loop-holds
-    mul-filled
-    shared-slice-read-filled
-    mul-blank
-    shared-slice-read-blank
-    blank-requires
-    add-c
-    loop-less
-    loop-again
-    returns)
+    (tie.spec Inv-loop μ-loop loop-holds mul-filled shared-slice-read-filled mul-blank shared-slice-read-blank blank-requires
+    add-c loop-less loop-again returns)

@@ -27,4 +27,5 @@ returns c =
 
 pub fill-neighbours-spec : {M : Type 1} → statement M
 fill-neighbours-spec =
-    tie.close (tie.spec cross-rows-requires narrow-columns-requires same-length returns)
+    tie.close
+    (tie.spec cross-rows-requires narrow-columns-requires same-length returns)

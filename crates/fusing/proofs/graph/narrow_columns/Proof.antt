@@ -123,20 +123,6 @@ returns c =
 pub narrow-columns-spec : {M : Type 1} → statement M
 narrow-columns-spec =
     tie.close
-    (tie.spec
-    Inv-loop
-    μ-loop
-    loop-holds
-    mul-filled
-    shared-slice-read-filled
-    slice-aggregate-group-rows
-    slice-aggregate-group-rows-2
-    group-rows-requires
-    slice-aggregate-narrow-rows
-    slice-aggregate-narrow-rows-2
-    narrow-rows-requires
-    add-c
-    loop-less
-    loop-again
-    same-length
-    returns)
+    (tie.spec Inv-loop μ-loop loop-holds mul-filled shared-slice-read-filled slice-aggregate-group-rows
+    slice-aggregate-group-rows-2 group-rows-requires slice-aggregate-narrow-rows slice-aggregate-narrow-rows-2
+    narrow-rows-requires add-c loop-less loop-again same-length returns)

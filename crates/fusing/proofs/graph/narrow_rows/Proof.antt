@@ -109,21 +109,6 @@ returns c =
 pub narrow-rows-spec : {M : Type 1} → statement M
 narrow-rows-spec =
     tie.close
-    (tie.spec
-    Inv-loop
-    μ-loop
-    loop-holds
-    cast-j
-    mul-neighbours
-    slice-read-neighbours
-    mul-neighbours-2
-    shared-slice-read-neighbours
-    mul-neighbours-3
-    shared-slice-read-neighbours-2
-    mul-neighbours-4
-    slice-write-neighbours
-    sub-rest
-    loop-less
-    loop-again
-    same-length
-    returns)
+    (tie.spec Inv-loop μ-loop loop-holds cast-j mul-neighbours slice-read-neighbours mul-neighbours-2
+    shared-slice-read-neighbours mul-neighbours-3 shared-slice-read-neighbours-2 mul-neighbours-4 slice-write-neighbours
+    sub-rest loop-less loop-again same-length returns)

@@ -205,40 +205,7 @@ returns c =
 pub group-rows-spec : {M : Type 1} → statement M
 group-rows-spec =
     tie.close
-    (tie.spec
-    Inv-loop
-    μ-loop
-    loop-holds
-    cast-j
-    mul-cell
-    add-cell
-    mul-cell-2
-    shared-slice-read-cell
-    cast-d
-    mul-leader
-    array-read-leader
-    leader-requires
-    mul-leaders
-    slice-write-leaders
-    shl-equal
-    mul-equal
-    slice-write-equal
-    mul-buckets
-    array-read-buckets
-    shl-buckets
-    mul-buckets-2
-    array-write-buckets
-    sub-rest
-    loop-less
-    loop-again
-    mul-equal-2
-    slice-read-equal
-    shl-equal-2
-    mul-equal-3
-    slice-write-equal-2
-    sub-rest-2
-    loop-less-2
-    loop-again-2
-    same-length
-    same-length-2
-    returns)
+    (tie.spec Inv-loop μ-loop loop-holds cast-j mul-cell add-cell mul-cell-2 shared-slice-read-cell cast-d mul-leader
+    array-read-leader leader-requires mul-leaders slice-write-leaders shl-equal mul-equal slice-write-equal mul-buckets
+    array-read-buckets shl-buckets mul-buckets-2 array-write-buckets sub-rest loop-less loop-again mul-equal-2 slice-read-equal
+    shl-equal-2 mul-equal-3 slice-write-equal-2 sub-rest-2 loop-less-2 loop-again-2 same-length same-length-2 returns)

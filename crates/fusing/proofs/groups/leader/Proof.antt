@@ -90,17 +90,5 @@ returns-2 c =
 pub leader-spec : {M : Type 1} → statement M
 leader-spec =
     tie.close
-    (tie.spec
-    Inv-loop
-    μ-loop
-    loop-holds
-    cast-k
-    mul-if1
-    add-if1
-    mul-if1-2
-    shared-slice-read-if1
-    returns
-    sub-rest
-    loop-less
-    loop-again
-    returns-2)
+    (tie.spec Inv-loop μ-loop loop-holds cast-k mul-if1 add-if1 mul-if1-2 shared-slice-read-if1 returns sub-rest loop-less
+    loop-again returns-2)

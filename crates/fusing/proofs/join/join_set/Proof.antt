@@ -83,18 +83,5 @@ returns c =
 pub join-set-spec : {M : Type 1} → statement M
 join-set-spec =
     tie.close
-    (tie.spec
-    Inv-loop
-    μ-loop
-    loop-holds
-    mul-pick-cell
-    shared-slice-read-pick-cell
-    pick-cell-requires
-    add-out
-    mul-out
-    slice-write-out
-    add-i
-    loop-less
-    loop-again
-    same-length
-    returns)
+    (tie.spec Inv-loop μ-loop loop-holds mul-pick-cell shared-slice-read-pick-cell pick-cell-requires add-out mul-out
+    slice-write-out add-i loop-less loop-again same-length returns)

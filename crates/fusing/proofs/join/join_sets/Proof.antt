@@ -84,16 +84,5 @@ returns c =
 pub join-sets-spec : {M : Type 1} → statement M
 join-sets-spec =
     tie.close
-    (tie.spec
-    Inv-loop
-    μ-loop
-    loop-holds
-    mul-join-set
-    shared-slice-read-join-set
-    join-set-requires
-    add-at
-    add-k
-    loop-less
-    loop-again
-    same-length
-    returns)
+    (tie.spec Inv-loop μ-loop loop-holds mul-join-set shared-slice-read-join-set join-set-requires add-at add-k loop-less
+    loop-again same-length returns)

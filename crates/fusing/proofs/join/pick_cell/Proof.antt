@@ -41,11 +41,4 @@ returns-2 c =
 pub pick-cell-spec : {M : Type 1} → statement M
 pick-cell-spec =
     tie.close
-    (tie.spec
-    returns
-    cast-row
-    mul-result
-    add-result
-    mul-result-2
-    shared-slice-read-result
-    returns-2)
+    (tie.spec returns cast-row mul-result add-result mul-result-2 shared-slice-read-result returns-2)

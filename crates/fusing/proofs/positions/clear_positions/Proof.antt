@@ -51,15 +51,5 @@ returns c =
 pub clear-positions-spec : {M : Type 1} → statement M
 clear-positions-spec =
     tie.close
-    (tie.spec
-    Inv-loop
-    μ-loop
-    loop-holds
-    cast-positions
-    mul-positions
-    slice-write-positions
-    add-k
-    loop-less
-    loop-again
-    same-length
-    returns)
+    (tie.spec Inv-loop μ-loop loop-holds cast-positions mul-positions slice-write-positions add-k loop-less loop-again
+    same-length returns)

@@ -84,19 +84,5 @@ returns c =
 pub fill-own-spec : {M : Type 1} → statement M
 fill-own-spec =
     tie.close
-    (tie.spec
-    Inv-loop
-    μ-loop
-    clear-positions-requires
-    loop-holds
-    cast-positions
-    mul-positions
-    shared-slice-read-positions
-    cast-positions-2
-    mul-positions-2
-    slice-write-positions
-    add-j
-    loop-less
-    loop-again
-    same-length
-    returns)
+    (tie.spec Inv-loop μ-loop clear-positions-requires loop-holds cast-positions mul-positions shared-slice-read-positions
+    cast-positions-2 mul-positions-2 slice-write-positions add-j loop-less loop-again same-length returns)

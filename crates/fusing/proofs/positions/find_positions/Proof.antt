@@ -157,28 +157,6 @@ returns c =
 pub find-positions-spec : {M : Type 1} → statement M
 find-positions-spec =
     tie.close
-    (tie.spec
-    Inv-loop
-    μ-loop
-    fill-own-requires
-    loop-holds
-    add-next
-    mul-if1
-    slice-read-if1
-    cast-if1
-    mul-place-of
-    sub-place-of
-    part-place-of-start
-    part-place-of-end
-    place-of-requires
-    cast-positions
-    mul-positions
-    slice-write-positions
-    add-k
-    loop-less
-    loop-again
-    add-k-2
-    loop-less-2
-    loop-again-2
-    same-length
-    returns)
+    (tie.spec Inv-loop μ-loop fill-own-requires loop-holds add-next mul-if1 slice-read-if1 cast-if1 mul-place-of sub-place-of
+    part-place-of-start part-place-of-end place-of-requires cast-positions mul-positions slice-write-positions add-k loop-less
+    loop-again add-k-2 loop-less-2 loop-again-2 same-length returns)

@@ -37,12 +37,5 @@ returns-2 c =
 pub put-words-spec : {M : Type 1} → statement M
 put-words-spec =
     tie.close
-    (tie.spec
-    write-words-requires
-    element-copy-out-result
-    same-length
-    returns
-    write-words-requires-2
-    element-copy-out-result-2
-    same-length-2
-    returns-2)
+    (tie.spec write-words-requires element-copy-out-result same-length returns write-words-requires-2 element-copy-out-result-2
+    same-length-2 returns-2)

@@ -67,5 +67,5 @@ returns c =
 pub write-ids-spec : {M : Type 1} → statement M
 write-ids-spec =
     tie.close
-    (tie.spec Inv-loop μ-loop loop-holds mul-word-of shared-slice-read-word-of word-of-requires add-buffer mul-buffer slice-write-buffer add-i
-    loop-less loop-again same-length returns)
+    (tie.spec Inv-loop μ-loop loop-holds mul-word-of shared-slice-read-word-of word-of-requires add-buffer mul-buffer
+    slice-write-buffer add-i loop-less loop-again same-length returns)

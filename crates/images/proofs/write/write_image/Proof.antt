@@ -43,5 +43,5 @@ returns c =
 pub write-image-spec : {M : Type 1} → statement M
 write-image-spec =
     tie.close
-    (tie.spec add-start write-head-requires write-rows-requires mul-count-rows sub-count-rows part-count-rows-start part-count-rows-end
-    count-rows-requires same-length returns)
+    (tie.spec add-start write-head-requires write-rows-requires mul-count-rows sub-count-rows part-count-rows-start
+    part-count-rows-end count-rows-requires same-length returns)

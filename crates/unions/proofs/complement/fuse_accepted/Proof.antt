@@ -41,4 +41,5 @@ returns c = let t = c .before .before .before .before .before .before .before .b
 
 pub fuse-accepted-spec : {M : Type 1} → statement M
 fuse-accepted-spec =
-    tie.close (tie.spec new-requires union-rows-requires fuse-table-requires same-length same-length-2 returns)
+    tie.close
+    (tie.spec new-requires union-rows-requires fuse-table-requires same-length same-length-2 returns)

@@ -32,5 +32,5 @@ returns c = c .before .before .before .before .before .before .before .write-fus
 pub fuse-few-spec : {M : Type 1} → statement M
 fuse-few-spec =
     tie.close
-    (tie.spec slice-aggregate-write-fused slice-aggregate-write-fused-2 slice-aggregate-write-fused-3 write-fused-requires same-length
-    same-length-2 returns)
+    (tie.spec slice-aggregate-write-fused slice-aggregate-write-fused-2 slice-aggregate-write-fused-3 write-fused-requires
+    same-length same-length-2 returns)

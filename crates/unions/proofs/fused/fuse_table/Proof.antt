@@ -85,5 +85,5 @@ pub fuse-table-spec : {M : Type 1} → statement M
 fuse-table-spec =
     tie.close
     (tie.spec slice-aggregate-fill-columns fill-columns-requires slice-aggregate-list-sets list-sets-requires returns
-    array-share-prefix-list slice-aggregate-all slice-aggregate-fuse-sets slice-aggregate-fuse-sets-2 fuse-sets-requires same-length same-length-2
-    returns-2)
+    array-share-prefix-list slice-aggregate-all slice-aggregate-fuse-sets slice-aggregate-fuse-sets-2 fuse-sets-requires
+    same-length same-length-2 returns-2)

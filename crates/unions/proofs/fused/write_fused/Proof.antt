@@ -64,8 +64,7 @@ write-image-requires c κs =
 write-list-requires : tie.Need-write-list-requires
 write-list-requires c κs =
     let q = c .before .before .before .before .before .before .before .before in
-    let k = q .before .before in
-    (
+    let k = q .before .before in (
       fused-listable (start k .pre .0) (fuse k .fuse-rows .ensures) (omega (arith, start k .pre .1 .positions-too, k .before .positions .given)),
       q .before .check-room .ensures .fits (q .if1 .left) .1,
     )
@@ -97,6 +96,6 @@ returns-2 c =
 pub write-fused-spec : {M : Type 1} → statement M
 write-fused-spec =
     tie.close
-    (tie.spec fuse-rows-requires add-words mul-words add-words-2 mul-set-words add-set-words check-room-requires same-length same-length-2
-    same-length-3 returns write-image-requires write-list-requires same-length-4 same-length-5 same-length-6 same-length-7 same-length-8
-    returns-2)
+    (tie.spec fuse-rows-requires add-words mul-words add-words-2 mul-set-words add-set-words check-room-requires same-length
+    same-length-2 same-length-3 returns write-image-requires write-list-requires same-length-4 same-length-5 same-length-6
+    same-length-7 same-length-8 returns-2)

@@ -62,4 +62,5 @@ returns-4 c =
 pub check-pair-spec : {M : Type 1} → statement M
 check-pair-spec =
     tie.close
-    (tie.spec cast-check-image check-image-requires returns cast-check-image-2 check-image-requires-2 returns-2 both-ids-requires same-length returns-3 same-length-2 returns-4)
+    (tie.spec cast-check-image check-image-requires returns cast-check-image-2 check-image-requires-2 returns-2
+    both-ids-requires same-length returns-3 same-length-2 returns-4)
