@@ -2,7 +2,7 @@
 use mathlib.Core.Path.{_≡_, refl, sym, _∙_, ap, ap₂, subst}
 use mathlib.Core.Bool.{Bool}
 use mathlib.Core.List.{List, [], _∷_, _++_, map, map-map, flatten}
-use Prim.Native.Nat.{ℕ, _+_, _*_, _≤_}
+use Prim.Native.Nat.{ℕ, _+_}
 use native.Mathlib.Omega.{arith}
 use lib.ListN.{length, drop, length-append}
 use Rattle.definitions.specs.declared.OuterAnswer.{OuterAnswer}
@@ -11,7 +11,7 @@ use Rattle.definitions.specs.declared.MinimumAnswer.{MinimumAnswer}
 use Rattle.definitions.specs.declared.MinimumAnswer.the-variants as minimum
 use Rattle.definitions.specs.declared.ComplementAnswer.{ComplementAnswer}
 use Rattle.definitions.specs.declared.ComplementAnswer.the-variants.{Done, Refused}
-use Rattle.definitions.specs.Limits.{maxColumns, maxUnionRows, maxSets, setWidth}
+use Rattle.definitions.specs.Limits.{maxUnionRows}
 use Rattle.definitions.specs.Image.{imageIds, imageOf}
 use Rattle.definitions.specs.OuterUnion.{unionIds, unionRows}
 use Rattle.definitions.specs.MinimumUnion.{filled, minimumRows, pairsTried}
@@ -28,7 +28,7 @@ use Rattle.definitions.proofs.Lists.{map-ext}
 use Rattle.definitions.proofs.Minimum.{minimum-is}
 use Rattle.definitions.proofs.Counts.{fused-count, minimum-count, set-list-length}
 use Rattle.definitions.proofs.Unions.{rows-even, fused-even}
-use Rattle.definitions.proofs.Outcomes.{Accepted, outer-done, minimum-done, ComplementDone, complement-done}
+use Rattle.definitions.proofs.Outcomes.{outer-done, minimum-done, ComplementDone, complement-done}
 use Rattle.definitions.proofs.Images.{accepted-rows}
 use Rattle.definitions.proofs.Reading.{positions-read, place-read, records-read, listed-length, listed-place}
 use Rattle.definitions.proofs.TableWords.{small-ids, Table, ids-front, rows-front, table-front, table-words}
@@ -257,7 +257,6 @@ module _ {a b fused sets : List ℕ} {answer : ComplementAnswer} (w : Answered a
           table-within = h .within;
           table-text = ap (λ (lines : List ℕ). fusedTitle rows cells ++ lines) (h .lines)
               ∙ ap₂ (λ (r f : ℕ). fusedTitle r f ++ rowLines F) n m;
-          list-within =
-              omega (arith, k, ap length list, length-append (setList (T a b)) (drop (length (setList (T a b))) (w .foundSets)), set-list-length (T a b));
+          list-within = omega (arith, k, simp length-append at (ap length list), set-list-length (T a b));
           list-text = sets-text a b values d sets _ count list k;
         }

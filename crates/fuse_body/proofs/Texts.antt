@@ -1,8 +1,7 @@
 -- The text of the program by its cases: a ragged file, two images, and the buffer afterwards. Assumes nothing.
 use mathlib.Core.Path.{_≡_, refl, sym, _∙_, ap, ap₂}
-use mathlib.Core.Bool.{Bool, true, false}
-use mathlib.Core.List.{List, [], _∷_, _++_}
-use Prim.Native.Nat.{ℕ, _+_, _%_, _≤_, _<_, min}
+use mathlib.Core.List.{List, _++_}
+use Prim.Native.Nat.{ℕ, _%_, _≤_, _<_, min}
 use native.Mathlib.Nat.{zero-add}
 use native.Mathlib.Omega.{arith}
 use lib.Dec.{leb}

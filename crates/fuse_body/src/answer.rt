@@ -34,7 +34,9 @@ const SET_BYTES: usize = 3 * MAX_UNION_ROWS + 7;
 const TITLE_BYTES: usize = 6 * MAX_COLUMNS + 8 + 4 * 26;
 
 // No output is longer than this.
-pub const MAX_TEXT: usize = TITLE_BYTES + (2 * MAX_UNION_ROWS + MAX_SETS) * ROW_BYTES + MAX_SETS * SET_BYTES;
+pub const MAX_TEXT: usize = TITLE_BYTES
+    + (2 * MAX_UNION_ROWS + MAX_SETS) * ROW_BYTES
+    + MAX_SETS * SET_BYTES;
 
 // Done with the length of the text, or a buffer that is shorter than the longest text.
 pub enum TextAnswer {

@@ -12,6 +12,7 @@ use Rattle.definitions.specs.Text.{ascii, decimal}
 use Rattle.definitions.specs.Listing.{line, titleLine, columnsLine, raggedLine, refusedLine}
 use Rattle.definitions.proofs.Lines.{later, line-first}
 use Rattle.text.specs.Written.{space, newline, Fits, Written}
+use Rattle.listing.specs.Lines.{idText}
 use Rattle.text.proofs.Writing.{Writing, starts, rest-as, fits-next, rest-fits, turns, ends-with}
 
 -- ---- a line by its parts
@@ -30,10 +31,6 @@ pub refused-text : (number table : ℕ)
 refused-text number table =
     line-next (ascii "refused") (decimal number) (ascii "table" ∷ decimal table ∷ [])
     ∙ ap (λ (l : List ℕ). (ascii "refused" ++ (space ∷ [])) ++ l) (line-next (decimal number) (ascii "table") (decimal table ∷ []))
-
--- the ids of column words
-abbrev pub idText : ℕ → List ℕ
-idText w = decimal (idOf w)
 
 pub ids-text : (columns : List ℕ) → columnsLine (map idOf columns) ≡ ascii "columns" ++ later (map idText columns)
 ids-text columns =
@@ -66,7 +63,8 @@ fields-start f l i h g = record { count = h; writing = starts _ _ (later (map f 
 module _ {f : ℕ → List ℕ} {l whole b m : List ℕ} {at i mid : ℕ} (w : Fields f l whole b at i m mid) where
   next-field : i < length l → Writing b at whole (later (f (getD l i 0) ∷ map f (drop (i + 1) l))) m mid
   next-field h =
-      rest-as (ap (λ (x : List ℕ). later (map f x)) (drop-cons l i 0 h ∙ ap (λ (k : ℕ). getD l i 0 ∷ drop k l) (sym (add-one i)))) (w .writing)
+      let next : drop i l ≡ getD l i 0 ∷ drop (i + 1) l = rw add-one (drop-cons l i 0 h) in
+      rest-as (ap (λ (x : List ℕ). later (map f x)) next) (w .writing)
 
   pub field-fits : i < length l → mid + 1 + length (f (getD l i 0)) ≤ length m
   field-fits h = omega (arith, fits-next (space ∷ f (getD l i 0)) (later (map f (drop (i + 1) l))) (next-field h))

@@ -11,7 +11,7 @@ use borrow.Author.Tests.{eq-eqb, ne-eqb}
 use Rattle.definitions.specs.Limits.{markWords}
 use Rattle.definitions.specs.Reading.{wordMarks, setIn, positionsOf, positionIn}
 use Rattle.definitions.specs.Text.{ascii, decimal}
-use Rattle.definitions.specs.Listing.{line, titleLine, setLine}
+use Rattle.definitions.specs.Listing.{titleLine, setLine}
 use Rattle.definitions.proofs.Bools.{bool-cases}
 use Rattle.definitions.proofs.Reading.{marks-length, marks-drop}
 use Rattle.text.specs.Written.{space, Fits, Written}

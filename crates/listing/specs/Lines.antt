@@ -1,10 +1,11 @@
--- Texts of words: the line of a record of the set list and the lines of a list, and those of the rows of a table in a buffer.
+-- Texts of words: the lines of a table in a buffer, and those of a set list.
 use Prim.Native.Nat.{ℕ, _+_, _*_, _≤_}
 use mathlib.Core.Bool.{cond}
 use mathlib.Core.List.{List, [], _∷_, _++_, map, flatten}
 use lib.Dec.{eqb}
 use lib.ListN.{length, drop}
 use Rattle.definitions.specs.Limits.{setWidth, markWords}
+use Rattle.definitions.specs.Word.{idOf}
 use Rattle.definitions.specs.Image.{columnCount, imageIds, cellWords, rowsIn}
 use Rattle.definitions.specs.Reading.{setIn, positionIn, positionsOf}
 use Rattle.definitions.specs.Text.{decimal}
@@ -13,6 +14,10 @@ use Rattle.definitions.specs.Program.{rowLines}
 use Rattle.text.specs.Written.{space}
 
 -- ---- a table
+
+-- the id of a column word
+abbrev pub idText : ℕ → List ℕ
+idText column = decimal (idOf column)
 
 -- the words of an image reach to the end of its first n rows
 abbrev pub HasRows : List ℕ → ℕ → Type 0

@@ -1,8 +1,11 @@
 // Single lines: fields with a space between them, and byte 10 at the end.
-ghost use mathlib.Core.List.{map};
+ghost use Prim.Native.Nat.{_+_, _≤_};
+ghost use mathlib.Core.List.{_∷_, map};
+ghost use lib.ListN.{length};
 ghost use Rattle.definitions.specs.Word.{idOf};
 ghost use Rattle.definitions.specs.Listing.{columnsLine, titleLine, rowLine, raggedLine, refusedLine};
-ghost use Rattle.text.specs.Written.{Fits, Written};
+ghost use Rattle.text.specs.Written.{space, Fits, Written};
+ghost use Rattle.listing.specs.Lines.{idText};
 use text::NEWLINE;
 use text::next_cell;
 use text::next_number;
@@ -27,6 +30,14 @@ pub(crate) fn title_line(out: &mut [u8], at: usize, title: &[u8], numbers: &[usi
     put_byte(out, end, NEWLINE)
 }
 
+// A space, and then the id of a column word.
+fn next_id(out: &mut [u8], at: usize, column: u32) -> usize
+    requires { ⌜ at + 1 + length (idText column) ≤ length (now out) ⌝ }
+    ensures { λ r. ⌜ Written (now (out .entry)) at (space ∷ idText column) (now (out .exit)) r ⌝ }
+{
+    next_number(out, at, words::id(column) as usize)
+}
+
 // The columns' line: the ids of the column words.
 pub(crate) fn columns_line(out: &mut [u8], at: usize, columns: &[u32]) -> usize
     requires { ⌜ Fits (now out) at (columnsLine (map idOf (now columns))) ⌝ }
@@ -36,7 +47,7 @@ pub(crate) fn columns_line(out: &mut [u8], at: usize, columns: &[u32]) -> usize
     let mut end = put_text(out, at, b"columns");
     let mut i = 0;
     while i < columns.len() {
-        end = next_number(out, end, words::id(columns[i]) as usize);
+        end = next_id(out, end, columns[i]);
         i += 1;
     }
     put_byte(out, end, NEWLINE)

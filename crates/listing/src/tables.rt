@@ -2,8 +2,8 @@
 ghost use Prim.Native.Nat.{_*_, _≤_};
 ghost use mathlib.Core.List.{_++_};
 ghost use lib.ListN.{length};
-ghost use Rattle.definitions.specs.Image.{imageIds, rowsIn};
-ghost use Rattle.definitions.specs.Listing.{columnsLine, titleLine, unionTitle, minimumTitle, fusedTitle};
+ghost use Rattle.definitions.specs.Image.{rowsIn};
+ghost use Rattle.definitions.specs.Listing.{titleLine, minimumTitle, fusedTitle};
 ghost use Rattle.definitions.specs.Program.{rowLines};
 ghost use Rattle.text.specs.Written.{Fits, Written};
 ghost use Rattle.listing.specs.Lines.{HasRows, tableLines, unionLines};

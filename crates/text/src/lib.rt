@@ -28,12 +28,14 @@ pub fn put_text(out: &mut [u8], at: usize, text: &[u8]) -> usize
     requires { ⌜ Fits (now out) at (now text) ⌝ }
     ensures { λ r. ⌜ Written (now (out .entry)) at (now (text .entry)) (now (out .exit)) r ⌝ }
 {
+    let mut end = at;
     let mut i = 0;
     while i < text.len() {
-        out[at + i] = text[i];
+        out[end] = text[i];
+        end += 1;
         i += 1;
     }
-    at + i
+    end
 }
 
 // The decimal digits of `n`.

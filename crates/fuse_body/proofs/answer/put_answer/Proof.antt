@@ -1,5 +1,4 @@
 -- `put_answer` meets its contract: the line of a refusal, or the listing.
-use native.Mathlib.Omega.{arith}
 use Rattle.text.proofs.Writing.{as-written}
 use Rattle.fuse_body.proofs.Parts.{refused-text, listed-text, listed-words}
 use Rattle.fuse_body.proofs.Texts.{unions-fit}
@@ -22,7 +21,8 @@ put-listing-requires : tie.Need-put-listing-requires
 put-listing-requires c κs =
     let s = c .before .before .before .before .before .before .before .before .before .before .before in
     let is = c .before .before .before .answer2 .given .1 in
-    (listed-words (s .pre .0) is, (s .pre .1 .0, unions-fit (s .args .out .now) _ _ _ (listed-text (s .pre .0) is) (s .pre .1 .1)))
+    let room = unions-fit (s .args .out .now) _ _ _ (listed-text (s .pre .0) is) (s .pre .1 .1) in
+    (listed-words (s .pre .0) is, (s .pre .1 .0, room))
 
 same-length : tie.Need-same-length
 same-length c = search needs
@@ -30,7 +30,8 @@ same-length c = search needs
 returns : tie.Need-returns
 returns c =
     let told = c .before .before .before .before .before in
-    as-written (refused-text (told .before .before .before .before .before .before .before .before .pre .0) (told .answer .given .1)) (c .before .before .refused-line .ensures)
+    let is = told .answer .given .1 in
+    as-written (refused-text (told .before .before .before .before .before .before .before .before .pre .0) is) (c .before .before .refused-line .ensures)
 
 same-length-2 : tie.Need-same-length-2
 same-length-2 c = search needs
@@ -41,7 +42,8 @@ same-length-3 c = search needs
 returns-2 : tie.Need-returns-2
 returns-2 c =
     let told = c .before .before .before .before .before .before .before .before in
-    as-written (listed-text (told .before .before .before .before .before .before .before .before .pre .0) (told .answer2 .given .1)) (c .before .before .before .before .put-listing .ensures)
+    let is = told .answer2 .given .1 in
+    as-written (listed-text (told .before .before .before .before .before .before .before .before .pre .0) is) (c .before .before .before .before .put-listing .ensures)
 
 pub put-answer-spec : {M : Type 1} → statement M
 put-answer-spec =

@@ -12,8 +12,8 @@ put-answer-requires : tie.Need-put-answer-requires
 put-answer-requires c κs =
     let called = c .before .before .before .before .before .before .before .before in
     let lent = called .before .before .before .before .before .before .before .before .before .pre in
-    let call = called .complement-union .ensures in
-    (lent-answered _ _ _ _ _ _ _ _ _ (lent .fused-words) (lent .set-words) (call .0) (call .1 .0) (call .1 .1 .0), (omega arith, omega (arith, lent .text-bytes)))
+    let words = lent-answered _ _ _ _ _ _ _ _ _ (lent .fused-words) (lent .set-words) (called .complement-union .ensures) in
+    (words, (omega arith, omega (arith, lent .text-bytes)))
 
 same-length : tie.Need-same-length
 same-length c = search needs

@@ -23,8 +23,9 @@ put-minimum-requires c κs =
 sets-lines-requires : tie.Need-sets-lines-requires
 sets-lines-requires c κs =
     let s = c .before .before .before .before .before .before .before .before .before .before .before .before .before .before .before .before .before .before .before .before .before in
+    let words = s .pre .0 in
     let room = listing-length (s .args .a .now) (s .args .b .now) in
-    (s .pre .0 .list-within, omega (arith, room, s .pre .1 .1, ap length (s .pre .0 .list-text)))
+    (words .list-within, omega (arith, room, s .pre .1 .1, ap length (words .list-text)))
 
 fused-lines-requires : tie.Need-fused-lines-requires
 fused-lines-requires c κs =

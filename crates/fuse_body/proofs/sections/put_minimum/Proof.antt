@@ -1,6 +1,5 @@
 -- `put_minimum` meets its contract: the lines of the words that the call left are this section of the listing.
-use Prim.Native.Nat.{ℕ, _+_, _≤_}
-use mathlib.Core.Path.{sym, ap}
+use mathlib.Core.Path.{ap}
 use native.Mathlib.Omega.{arith}
 use lib.ListN.{length}
 use Rattle.text.proofs.Writing.{as-written}
@@ -33,7 +32,8 @@ returns : tie.Need-returns
 returns c =
     let called = c .before .before .before .before in
     let s = called .before .before .before .before .before .before in
-    not-refused-minimum (s .args .a .now) (s .args .b .now) (s .pre .is-done) _ (s .pre .table-words) (called .minimum-union .ensures .0) (c .enum-told .given .1)
+    not-refused-minimum (s .args .a .now) (s .args .b .now) (s .pre .is-done) _ (s .pre .table-words)
+    (called .minimum-union .ensures) (c .enum-told .given .1)
 
 same-length-2 : tie.Need-same-length-2
 same-length-2 c = search needs

@@ -1,14 +1,13 @@
 -- `columns_line` meets its contract: what is written so far and the ids that are left are the line.
-use Prim.Native.Nat.{ℕ, _-_}
+use Prim.Native.Nat.{_-_}
 use mathlib.Core.Path.{sym, ap}
-use mathlib.Core.List.{_∷_, map}
+use mathlib.Core.List.{map}
 use native.Mathlib.Omega.{arith}
 use lib.ListN.{length, length-append}
-use Rattle.definitions.specs.Text.{decimal}
 use Rattle.definitions.proofs.Lines.{later}
-use Rattle.text.specs.Written.{space}
 use Rattle.text.proofs.Writing.{as-written, then-written, behind-fits, same-room}
-use Rattle.listing.proofs.Fields.{Fields, fields-start, field-fits, field-turn, end-fits, line-ends, idText, ids-text}
+use Rattle.listing.specs.Lines.{idText}
+use Rattle.listing.proofs.Fields.{ids-text, Fields, fields-start, field-fits, field-turn, end-fits, line-ends}
 use borrow.Author.Needs.{needs}
 use Rattle.listing.proofs.lines.columns_line.Statement.{statement}
 use Rattle.listing.proofs.lines.columns_line.Tie as tie
@@ -29,22 +28,17 @@ loop-holds : tie.Need-loop-holds Inv-loop μ-loop
 loop-holds c =
     let titled = c .before .before in
     let s = titled .before .before .before .before .before in
-    fields-start idText _ 0 (omega arith) (behind-fits _ (ids-text (s .args .columns .now)) (s .pre) (titled .put-text .ensures))
+    let room = behind-fits _ (ids-text (s .args .columns .now)) (s .pre) (titled .put-text .ensures) in
+    fields-start idText _ 0 (omega arith) room
 
-mul-id : tie.Need-mul-id Inv-loop μ-loop
-mul-id c = search needs
+mul-next-id : tie.Need-mul-next-id Inv-loop μ-loop
+mul-next-id c = search needs
 
-shared-slice-read-id : tie.Need-shared-slice-read-id Inv-loop μ-loop
-shared-slice-read-id c = search needs
+shared-slice-read-next-id : tie.Need-shared-slice-read-next-id Inv-loop μ-loop
+shared-slice-read-next-id c = search needs
 
-id-requires : tie.Need-id-requires Inv-loop μ-loop
-id-requires c κs = search needs
-
-cast-next-number : tie.Need-cast-next-number Inv-loop μ-loop
-cast-next-number c = search needs
-
-next-number-requires : tie.Need-next-number-requires Inv-loop μ-loop
-next-number-requires c κs = omega (arith, field-fits (c .before .before .before .before .loop .inv) (omega arith), ap (λ (n : ℕ). length (decimal n)) (c .id .ensures))
+next-id-requires : tie.Need-next-id-requires Inv-loop μ-loop
+next-id-requires c κs = field-fits (c .before .before .before .loop .inv) (omega arith)
 
 add-i : tie.Need-add-i Inv-loop μ-loop
 add-i c = search needs
@@ -53,10 +47,7 @@ loop-less : tie.Need-loop-less Inv-loop μ-loop
 loop-less c = search needs
 
 loop-again : tie.Need-loop-again Inv-loop μ-loop
-loop-again c =
-    let called = c .before .before .before in
-    field-turn (called .before .before .before .before .loop .inv) (omega arith)
-    (as-written (ap (λ (n : ℕ). space ∷ decimal n) (called .id .ensures)) (c .before .before .next-number .ensures))
+loop-again c = field-turn (c .before .before .before .before .before .before .loop .inv) (omega arith) (c .before .before .next-id .ensures)
 
 put-byte-requires : tie.Need-put-byte-requires Inv-loop μ-loop
 put-byte-requires c κs = end-fits (c .before .before .loop .inv) (omega arith)
@@ -68,8 +59,8 @@ returns : tie.Need-returns Inv-loop μ-loop
 returns c =
     let written = c .before .before .before .before .before in
     let titled = written .before .before .before in
-    as-written (sym (ids-text (titled .before .before .before .before .before .args .columns .now)))
-    (then-written (titled .put-text .ensures) (line-ends (written .loop .inv) (omega arith) (c .before .before .put-byte .ensures)))
+    let rest = line-ends (written .loop .inv) (omega arith) (c .before .before .put-byte .ensures) in
+    as-written (sym (ids-text (titled .before .before .before .before .before .args .columns .now))) (then-written (titled .put-text .ensures) rest)
 
 pub columns-line-spec : {M : Type 1} → statement M
 columns-line-spec =
@@ -80,11 +71,9 @@ columns-line-spec =
     slice-aggregate-put-text
     put-text-requires
     loop-holds
-    mul-id
-    shared-slice-read-id
-    id-requires
-    cast-next-number
-    next-number-requires
+    mul-next-id
+    shared-slice-read-next-id
+    next-id-requires
     add-i
     loop-less
     loop-again

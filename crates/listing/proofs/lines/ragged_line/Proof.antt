@@ -12,7 +12,9 @@ slice-aggregate-text-field : tie.Need-slice-aggregate-text-field
 slice-aggregate-text-field c = search needs
 
 text-field-requires : tie.Need-text-field-requires
-text-field-requires c κs = omega (arith, simp length-append at (ap length (ragged-text (c .before .before .before .before .args .name .now))))
+text-field-requires c κs =
+    let s = c .before .before .before .before in
+    omega (arith, simp length-append at (ap length (ragged-text (s .args .name .now))))
 
 slice-aggregate-title-line : tie.Need-slice-aggregate-title-line
 slice-aggregate-title-line c = search needs
@@ -24,7 +26,9 @@ same-length : tie.Need-same-length
 same-length c = search needs
 
 returns : tie.Need-returns
-returns c = as-written (sym (ragged-text _)) (then-written (c .before .before .before .before .before .before .before .text-field .ensures) (c .before .before .title-line .ensures))
+returns c =
+    let begun = c .before .before .before .before .before .before .before in
+    as-written (sym (ragged-text _)) (then-written (begun .text-field .ensures) (c .before .before .title-line .ensures))
 
 pub ragged-line-spec : {M : Type 1} → statement M
 ragged-line-spec =

@@ -19,7 +19,8 @@ text-field-requires c κs =
 number-field-requires : tie.Need-number-field-requires
 number-field-requires c κs =
     let begun = c .before .before .before in
-    omega (arith, simp length-append at (behind-fits _ (refused-text _ _) (begun .before .before .before .before .pre) (begun .text-field .ensures)))
+    let room = behind-fits _ (refused-text _ _) (begun .before .before .before .before .pre) (begun .text-field .ensures) in
+    omega (arith, simp length-append at room)
 
 slice-aggregate-title-line : tie.Need-slice-aggregate-title-line
 slice-aggregate-title-line c = search needs
@@ -30,7 +31,8 @@ slice-aggregate-title-line-2 c = search needs
 title-line-requires : tie.Need-title-line-requires
 title-line-requires c κs =
     let begun = c .before .before .before .before .before .before .before .before .before in
-    behind-fits _ refl (behind-fits _ (refused-text _ _) (begun .before .before .before .before .pre) (begun .text-field .ensures)) (c .before .before .before .before .before .number-field .ensures)
+    let room = behind-fits _ (refused-text _ _) (begun .before .before .before .before .pre) (begun .text-field .ensures) in
+    behind-fits _ refl room (c .before .before .before .before .before .number-field .ensures)
 
 same-length : tie.Need-same-length
 same-length c = search needs
@@ -38,8 +40,8 @@ same-length c = search needs
 returns : tie.Need-returns
 returns c =
     let numbered = c .before .before .before .before .before .before .before .before in
-    as-written (sym (refused-text _ _))
-    (then-written (numbered .before .before .before .before .text-field .ensures) (then-written (numbered .number-field .ensures) (c .before .before .title-line .ensures)))
+    let rest = then-written (numbered .number-field .ensures) (c .before .before .title-line .ensures) in
+    as-written (sym (refused-text _ _)) (then-written (numbered .before .before .before .before .text-field .ensures) rest)
 
 pub refused-line-spec : {M : Type 1} → statement M
 refused-line-spec =

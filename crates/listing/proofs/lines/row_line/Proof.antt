@@ -27,7 +27,8 @@ same-length c = search needs
 returns : tie.Need-returns Inv-loop μ-loop
 returns c =
     let none = c .before .before .before .before in
-    as-written (sym (no-fields cellText (none .before .before .before .args .cells .now) (none .if1 .taken))) (c .before .before .put-byte .ensures)
+    let text = no-fields cellText (none .before .before .before .args .cells .now) (none .if1 .taken) in
+    as-written (sym text) (c .before .before .put-byte .ensures)
 
 shared-slice-read-put-cell : tie.Need-shared-slice-read-put-cell Inv-loop μ-loop
 shared-slice-read-put-cell c = search needs
@@ -42,7 +43,8 @@ loop-holds c =
     let begun = c .before .before in
     let s = begun .before .before .before .before .before .before in
     let some = some-fields cellText (s .args .cells .now) (omega (arith, begun .before .before .before .if1 .left)) in
-    fields-start cellText _ 1 (omega (arith, begun .before .before .before .if1 .left)) (behind-fits _ some (s .pre) (begun .put-cell .ensures))
+    let room = behind-fits _ some (s .pre) (begun .put-cell .ensures) in
+    fields-start cellText _ 1 (omega (arith, begun .before .before .before .if1 .left)) room
 
 mul-next-cell : tie.Need-mul-next-cell Inv-loop μ-loop
 mul-next-cell c = search needs
@@ -72,8 +74,10 @@ returns-2 : tie.Need-returns-2 Inv-loop μ-loop
 returns-2 c =
     let written = c .before .before .before .before .before in
     let begun = written .before .before .before in
-    as-written (sym (some-fields cellText (begun .before .before .before .before .before .before .args .cells .now) (omega (arith, begun .before .before .before .if1 .left))))
-    (then-written (begun .put-cell .ensures) (line-ends (written .loop .inv) (omega arith) (c .before .before .put-byte2 .ensures)))
+    let s = begun .before .before .before .before .before .before .args in
+    let some = some-fields cellText (s .cells .now) (omega (arith, begun .before .before .before .if1 .left)) in
+    let rest = line-ends (written .loop .inv) (omega arith) (c .before .before .put-byte2 .ensures) in
+    as-written (sym some) (then-written (begun .put-cell .ensures) rest)
 
 pub row-line-spec : {M : Type 1} → statement M
 row-line-spec =

@@ -24,7 +24,8 @@ put-text-requires c κs = omega (arith, simp (line-first, length-append) at (c .
 loop-holds : tie.Need-loop-holds Inv-loop μ-loop
 loop-holds c =
     let titled = c .before .before in
-    fields-start decimal _ 0 (omega arith) (behind-fits _ (line-first _ _) (titled .before .before .before .before .before .pre) (titled .put-text .ensures))
+    let room = behind-fits _ (line-first _ _) (titled .before .before .before .before .before .pre) (titled .put-text .ensures) in
+    fields-start decimal _ 0 (omega arith) room
 
 mul-next-number : tie.Need-mul-next-number Inv-loop μ-loop
 mul-next-number c = search needs
@@ -53,8 +54,8 @@ same-length c = omega (arith, same-room (c .before .before .before .before .befo
 returns : tie.Need-returns Inv-loop μ-loop
 returns c =
     let written = c .before .before .before .before .before in
-    as-written (sym (line-first _ _))
-    (then-written (written .before .before .before .put-text .ensures) (line-ends (written .loop .inv) (omega arith) (c .before .before .put-byte .ensures)))
+    let rest = line-ends (written .loop .inv) (omega arith) (c .before .before .put-byte .ensures) in
+    as-written (sym (line-first _ _)) (then-written (written .before .before .before .put-text .ensures) rest)
 
 pub title-line-spec : {M : Type 1} → statement M
 title-line-spec =

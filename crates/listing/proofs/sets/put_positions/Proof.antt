@@ -2,7 +2,6 @@
 use Prim.Native.Nat.{_*_, _-_}
 use native.Mathlib.Omega.{arith}
 use lib.Bits.{and-mask}
-use lib.ListN.{getD}
 use Rattle.definitions.specs.Limits.{markWords}
 use Rattle.definitions.specs.Reading.{wordMarks}
 use Rattle.text.proofs.Writing.{same-room}
@@ -42,7 +41,9 @@ loop-less : tie.Need-loop-less Inv-loop μ-loop
 loop-less c = search needs
 
 loop-again : tie.Need-loop-again Inv-loop μ-loop
-loop-again c = position-turn (c .before .before .before .before .before .before .loop .inv) _ (omega arith) (and-mask _ 1) (c .before .before .put-position .ensures)
+loop-again c =
+    let written = c .before .before .before .before .before .before .loop .inv in
+    position-turn written _ (omega arith) (and-mask _ 1) (c .before .before .put-position .ensures)
 
 same-length : tie.Need-same-length Inv-loop μ-loop
 same-length c = same-room (c .before .loop .inv .writing)

@@ -31,7 +31,8 @@ slice-aggregate-title-line-2 c = search needs
 title-line-requires : tie.Need-title-line-requires
 title-line-requires c κs =
     let s = c .before .before .before .before .before .before .before .before .before .before .before in
-    behind-fits _ (record-text (s .args .set .now) _ (c .before .before .before .low-bits .ensures)) (s .pre .1) (c .before .before .before .before .before .before .before .put-positions .ensures)
+    let text = record-text (s .args .set .now) _ (c .before .before .before .low-bits .ensures) in
+    behind-fits _ text (s .pre .1) (c .before .before .before .before .before .before .before .put-positions .ensures)
 
 same-length : tie.Need-same-length
 same-length c = search needs
@@ -39,8 +40,8 @@ same-length c = search needs
 returns : tie.Need-returns
 returns c =
     let begun = c .before .before .before .before .before .before .before .before .before .before in
-    as-written (sym (record-text (begun .before .before .before .before .args .set .now) _ (c .before .before .before .before .before .before .low-bits .ensures)))
-    (then-written (begun .put-positions .ensures) (c .before .before .title-line .ensures))
+    let text = record-text (begun .before .before .before .before .args .set .now) _ (c .before .before .before .before .before .before .low-bits .ensures) in
+    as-written (sym text) (then-written (begun .put-positions .ensures) (c .before .before .title-line .ensures))
 
 pub set-line-spec : {M : Type 1} → statement M
 set-line-spec =

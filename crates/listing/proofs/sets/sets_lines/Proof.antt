@@ -30,7 +30,8 @@ record-lines-requires : tie.Need-record-lines-requires
 record-lines-requires c κs =
     let s = c .before .before .before .before .before .before .before .before .before .before in
     let list = s .args .list .now in
-    (list-within list _ (s .pre .0), behind-fits _ (list-text list (s .args .count)) (s .pre .1) (c .before .before .before .before .title-line .ensures))
+    let room = behind-fits _ (list-text list (s .args .count)) (s .pre .1) (c .before .before .before .before .title-line .ensures) in
+    (list-within list _ (s .pre .0), room)
 
 same-length : tie.Need-same-length
 same-length c = search needs

@@ -40,9 +40,11 @@ row-lines-requires : tie.Need-row-lines-requires
 row-lines-requires c κs =
     let counted = c .before .before .before .before .before .before in
     let s = counted .before .before .before .before .before .before in
+    let image = s .args .image .now in
     let count = counted .columns .ensures in
-    let text = table-text (s .args .image .now) (s .args .rows) _ count (titleLine (s .args .title .now) (s .args .numbers .now)) in
-    (table-within (s .args .image .now) _ _ count (s .pre .0), behind-fits _ text (s .pre .1) (c .before .before .before .before .title-line .ensures))
+    let title = titleLine (s .args .title .now) (s .args .numbers .now) in
+    let room = behind-fits _ (table-text image (s .args .rows) _ count title) (s .pre .1) (c .before .before .before .before .title-line .ensures) in
+    (table-within image _ _ count (s .pre .0), room)
 
 same-length : tie.Need-same-length
 same-length c = search needs

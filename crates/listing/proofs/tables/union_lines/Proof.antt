@@ -31,7 +31,8 @@ columns-line-requires : tie.Need-columns-line-requires
 columns-line-requires c κs =
     let counted = c .before .before in
     let s = counted .before .before .before .before in
-    columns-fit (s .args .image .now) (s .args .rows) _ (counted .columns .ensures) (s .args .out .now) (s .args .at) (s .args .filled) (s .pre .1)
+    columns-fit (s .args .image .now) (s .args .rows) _ (counted .columns .ensures) (s .args .out .now) (s .args .at) (s .args .filled)
+    (s .pre .1)
 
 slice-aggregate-table-lines : tie.Need-slice-aggregate-table-lines
 slice-aggregate-table-lines c = search needs
@@ -43,7 +44,8 @@ table-lines-requires : tie.Need-table-lines-requires
 table-lines-requires c κs =
     let begun = c .before .before .before .before .before in
     let s = begun .before .before .before .before .before .before .before in
-    let text = union-text (s .args .image .now) (s .args .rows) _ (begun .before .before .before .columns .ensures) (s .args .filled) in
+    let count = begun .before .before .before .columns .ensures in
+    let text = union-text (s .args .image .now) (s .args .rows) _ count (s .args .filled) in
     (s .pre .0, behind-fits _ text (s .pre .1) (begun .columns-line .ensures))
 
 same-length : tie.Need-same-length
@@ -53,7 +55,8 @@ returns : tie.Need-returns
 returns c =
     let begun = c .before .before .before .before .before .before .before .before in
     let s = begun .before .before .before .before .before .before .before .args in
-    as-written (sym (union-text (s .image .now) (s .rows) _ (begun .before .before .before .columns .ensures) (s .filled)))
+    let count = begun .before .before .before .columns .ensures in
+    as-written (sym (union-text (s .image .now) (s .rows) _ count (s .filled)))
     (then-written (begun .columns-line .ensures) (c .before .before .table-lines .ensures))
 
 pub union-lines-spec : {M : Type 1} → statement M
