@@ -40,12 +40,8 @@ fn put_positions(out: &mut [u8], at: usize, set: &[u32]) -> usize
     let mut end = at;
     let mut p = 0;
     while p < POSITIONS {
-        end = put_position(
-            out,
-            end,
-            (set[p / WORD_POSITIONS] >> (p % WORD_POSITIONS)) & 1,
-            p,
-        );
+        let bit = (set[p / WORD_POSITIONS] >> (p % WORD_POSITIONS)) & 1;
+        end = put_position(out, end, bit, p);
         p += 1;
     }
     end

@@ -19,17 +19,17 @@ abbrev μ-loop : tie.MeasureT-loop
 loop-holds : tie.Need-loop-holds Inv-loop μ-loop
 loop-holds c = positions-start _ _ _ (omega arith)
 
-mul-put-position : tie.Need-mul-put-position Inv-loop μ-loop
-mul-put-position c = search needs
+mul-bit : tie.Need-mul-bit Inv-loop μ-loop
+mul-bit c = search needs
 
-shared-slice-read-put-position : tie.Need-shared-slice-read-put-position Inv-loop μ-loop
-shared-slice-read-put-position c = omega arith
+shared-slice-read-bit : tie.Need-shared-slice-read-bit Inv-loop μ-loop
+shared-slice-read-bit c = omega arith
 
-cast-put-position : tie.Need-cast-put-position Inv-loop μ-loop
-cast-put-position c = omega arith
+cast-bit : tie.Need-cast-bit Inv-loop μ-loop
+cast-bit c = omega arith
 
-shr-put-position : tie.Need-shr-put-position Inv-loop μ-loop
-shr-put-position c = omega arith
+shr-bit : tie.Need-shr-bit Inv-loop μ-loop
+shr-bit c = omega arith
 
 put-position-requires : tie.Need-put-position-requires Inv-loop μ-loop
 put-position-requires c κs = position-fits (c .before .before .before .loop .inv) _ (omega arith) (and-mask _ 1)
@@ -58,10 +58,10 @@ put-positions-spec =
     Inv-loop
     μ-loop
     loop-holds
-    mul-put-position
-    shared-slice-read-put-position
-    cast-put-position
-    shr-put-position
+    mul-bit
+    shared-slice-read-bit
+    cast-bit
+    shr-bit
     put-position-requires
     add-p
     loop-less
