@@ -1,41 +1,26 @@
--- The text of the program by its cases: a refusal, a listing, a ragged file, and the buffer afterwards. Assumes nothing.
+-- The text of the program by its cases: a ragged file, two images, and the buffer afterwards. Assumes nothing.
 use mathlib.Core.Path.{_≡_, refl, sym, _∙_, ap, ap₂}
-use mathlib.Core.Bool.{Bool, true, false}
-use mathlib.Core.List.{List, [], _∷_, _++_}
-use Prim.Native.Nat.{ℕ, _+_, _%_, _≤_, _<_, min}
+use mathlib.Core.List.{List, _++_}
+use Prim.Native.Nat.{ℕ, _%_, _≤_, _<_, min}
 use native.Mathlib.Nat.{zero-add}
 use native.Mathlib.Omega.{arith}
 use lib.Dec.{leb}
 use lib.ListN.{length, take, drop}
 use lib.Seq.{take-all}
 use borrow.Author.Tests.{eq-eqb, ne-eqb, le-leb, lt-leb, leb-true, leb-false}
-use Rattle.definitions.specs.Answer.{Outcome, done, refused}
-use Rattle.definitions.specs.Calls.{complementOutcome}
 use Rattle.definitions.specs.Text.{ascii}
-use Rattle.definitions.specs.Listing.{raggedLine, refusedLine}
-use Rattle.definitions.specs.Program.{maxBytes, wordsOf, listing, lentTable, lentSets, answered, unionsText, readText, fuseText, maxText}
+use Rattle.definitions.specs.Listing.{raggedLine}
+use Rattle.definitions.specs.Program.{maxBytes, wordsOf, unionsText, readText, fuseText, maxText}
 use Rattle.definitions.proofs.Bools.{bool-cases}
 use Rattle.definitions.proofs.TextLength.{unions-bound, read-bound, text-bound}
-use Rattle.text.specs.Written.{Written}
+use Rattle.text.specs.Written.{Fits, Written}
 use Rattle.fuse_body.specs.declared.answer.TextAnswer.{TextAnswer}
 use Rattle.fuse_body.specs.declared.answer.TextAnswer.the-variants.{Done, TooShort}
 use Rattle.fuse_body.specs.Promise.{TextPromise}
 
--- ---- two images
-
-module _ (a b : List ℕ) where
-  pub refused-text : (number table : ℕ) → refused number table ≡ complementOutcome a b lentTable lentSets
-      → refusedLine number table ≡ unionsText a b
-  unfolding unionsText
-  refused-text number table e = ap (λ (o : Outcome). answered o (listing a b)) e
-
-  pub listed-text : (values : List ℕ) → done values ≡ complementOutcome a b lentTable lentSets → listing a b ≡ unionsText a b
-  unfolding unionsText
-  listed-text values e = ap (λ (o : Outcome). answered o (listing a b)) e
-
 -- a text that is that of two images has room
-pub unions-fit : (a b text : List ℕ) (n : ℕ) → text ≡ unionsText a b → maxText ≤ n → length text ≤ n
-unions-fit a b text n e h = omega (arith, ap length e, unions-bound a b)
+pub unions-fit : (out a b text : List ℕ) → text ≡ unionsText a b → maxText ≤ length out → Fits out 0 text
+unions-fit out a b text e h = omega (arith, ap length e, unions-bound a b)
 
 -- ---- the bytes of two files
 
@@ -53,8 +38,8 @@ module _ (board plant : List ℕ) where
   whole-words h k = sym (rw (eq-eqb (length board % 4) 0 h, eq-eqb (length plant % 4) 0 k))
 
 -- a text that is that of two files has room
-pub read-fits : (board plant text : List ℕ) (n : ℕ) → text ≡ readText board plant → maxText ≤ n → length text ≤ n
-read-fits board plant text n e h = omega (arith, ap length e, read-bound board plant)
+pub read-fits : (out board plant text : List ℕ) → text ≡ readText board plant → maxText ≤ length out → Fits out 0 text
+read-fits out board plant text e h = omega (arith, ap length e, read-bound board plant)
 
 -- ---- what is read of a file
 

@@ -2,32 +2,73 @@
 ghost use Prim.Native.Nat.{_≤_, min};
 ghost use mathlib.Core.Path.{_≡_};
 ghost use lib.ListN.{length};
-ghost use Rattle.definitions.specs.Program.{maxBytes, maxText, lentTable, lentSets, unionsText, readText, fuseText};
+ghost use Rattle.definitions.specs.Program.{maxBytes, maxText, lentTable, unionsText, readText};
 ghost use Rattle.text.specs.Written.{Written};
+ghost use Rattle.fuse_body.specs.Parts.{Lent, FusedAnswer};
 ghost use Rattle.fuse_body.specs.Promise.{TextPromise};
+use crate::file::WORD_BYTES;
 use crate::file::decode;
 use crate::sections::put_listing;
 use definitions::ComplementAnswer;
+use definitions::MAX_COLUMNS;
+use definitions::MAX_SETS;
+use definitions::MAX_UNION_ROWS;
 use listing::ragged_line;
 use listing::refused_line;
 
 // "It reads at most 2,120 bytes a file": 530 words.
 pub(crate) const BYTES: usize = 2120;
 
-const WORDS: usize = 530;
+const WORDS: usize = BYTES / WORD_BYTES;
 
 // "It lends 16,384 words for the table and 4,100 for the sets."
 const TABLE: usize = 16384;
 
 const SETS: usize = 4100;
 
+// The longest row line, the longest set line, and all title lines. specs/Program of the definitions says why.
+const ROW_BYTES: usize = 11 * MAX_COLUMNS + 1;
+
+const SET_BYTES: usize = 3 * MAX_UNION_ROWS + 7;
+
+const TITLE_BYTES: usize = 6 * MAX_COLUMNS + 8 + 4 * 26;
+
 // No output is longer than this.
-pub const MAX_TEXT: usize = 407888;
+pub const MAX_TEXT: usize = TITLE_BYTES
+    + (2 * MAX_UNION_ROWS + MAX_SETS) * ROW_BYTES
+    + MAX_SETS * SET_BYTES;
 
 // Done with the length of the text, or a buffer that is shorter than the longest text.
 pub enum TextAnswer {
     Done { length: usize },
     TooShort,
+}
+
+// The text for two images, where complement union answered this and left these words.
+fn put_answer(
+    answer: ComplementAnswer,
+    a: &[u32],
+    b: &[u32],
+    fused: &[u32],
+    sets: &[u32],
+    table: &mut [u32],
+    out: &mut [u8],
+) -> usize
+    requires { ⌜ FusedAnswer (now a) (now b) answer (now fused) (now sets) ⌝ }
+    requires { ⌜ (length (now table) ≡ lentTable) × (maxText ≤ length (now out)) ⌝ }
+    ensures { λ r. ⌜ Written (now (out .entry)) 0
+        (unionsText (now (a .entry)) (now (b .entry))) (now (out .exit)) r ⌝ }
+{
+    match answer {
+        ComplementAnswer::Refused { number, table: k } => refused_line(out, 0, number, k),
+        ComplementAnswer::Done {
+            rows,
+            words: _,
+            filled,
+            sets: count,
+            set_words: _,
+        } => put_listing(a, b, fused, rows, filled, sets, count, table, out),
+    }
 }
 
 // The text for two images, with the buffers that are lent to the calls.
@@ -39,23 +80,12 @@ fn put_unions(
     table: &mut [u32],
     out: &mut [u8],
 ) -> usize
-    requires { ⌜ (length (now fused) ≡ lentTable) × (length (now sets) ≡ lentSets)
-        × (length (now table) ≡ lentTable) ⌝ }
-    requires { ⌜ maxText ≤ length (now out) ⌝ }
+    requires { ⌜ Lent (now fused) (now sets) (now table) (now out) ⌝ }
     ensures { λ r. ⌜ Written (now (out .entry)) 0
         (unionsText (now (a .entry)) (now (b .entry))) (now (out .exit)) r ⌝ }
 {
     let answer = unions::complement_union(a, b, fused, sets);
-    match answer {
-        ComplementAnswer::Refused { number, table: k } => refused_line(out, 0, number, k),
-        ComplementAnswer::Done {
-            rows,
-            words: _,
-            filled,
-            sets: count,
-            set_words: _,
-        } => put_listing(a, b, fused, rows, filled, sets, count, table, out),
-    }
+    put_answer(answer, a, b, fused, sets, table, out)
 }
 
 // Lends the buffers.
@@ -77,10 +107,10 @@ fn put_read(board: &[u8], plant: &[u8], out: &mut [u8]) -> usize
     ensures { λ r. ⌜ Written (now (out .entry)) 0
         (readText (now (board .entry)) (now (plant .entry))) (now (out .exit)) r ⌝ }
 {
-    if board.len() % 4 != 0 {
+    if board.len() % WORD_BYTES != 0 {
         return ragged_line(out, 0, b"board.tbl");
     }
-    if plant.len() % 4 != 0 {
+    if plant.len() % WORD_BYTES != 0 {
         return ragged_line(out, 0, b"plant.tbl");
     }
     let mut first = [0u32; WORDS];

@@ -1,8 +1,12 @@
 // Words from bytes, low byte first.
 ghost use mathlib.Core.Path.{_≡_};
 ghost use Prim.Native.Nat.{_*_, _≤_};
-ghost use lib.ListN.{length, take};
-ghost use Rattle.definitions.specs.Program.{wordOfBytes, wordsOf};
+ghost use lib.ListN.{length};
+ghost use Rattle.definitions.specs.Program.{wordOfBytes};
+ghost use Rattle.fuse_body.specs.Parts.{Decoded};
+
+// The bytes of a word.
+pub(crate) const WORD_BYTES: usize = 4;
 
 // The word of four bytes, low byte first.
 fn word(a: u8, b: u8, c: u8, d: u8) -> u32
@@ -14,13 +18,12 @@ fn word(a: u8, b: u8, c: u8, d: u8) -> u32
 // Puts the words of `bytes` at the start of `words`, and answers how many they are.
 pub(crate) fn decode(bytes: &[u8], words: &mut [u32]) -> usize
     requires { ⌜ length (now bytes) ≤ 4 * length (now words) ⌝ }
-    ensures within { λ r. ⌜ r ≤ length (now (words .exit)) ⌝ }
-    ensures { λ r. ⌜ take r (now (words .exit)) ≡ wordsOf (now (bytes .entry)) ⌝ }
+    ensures { λ r. ⌜ Decoded (now (bytes .entry)) (now (words .exit)) r ⌝ }
 {
-    let count = bytes.len() / 4;
+    let count = bytes.len() / WORD_BYTES;
     let mut i = 0;
     while i < count {
-        let at = 4 * i;
+        let at = WORD_BYTES * i;
         words[i] = word(bytes[at], bytes[at + 1], bytes[at + 2], bytes[at + 3]);
         i += 1;
     }

@@ -1,10 +1,9 @@
 // The parts of the listing, each from the answer and the words of a call.
-ghost use Prim.Native.Nat.{_+_, _≤_};
 ghost use mathlib.Core.Path.{_≡_};
 ghost use lib.ListN.{length};
 ghost use Rattle.definitions.specs.Program.{lentTable, unionText, minimumText, listing};
-ghost use Rattle.text.specs.Written.{Written};
-ghost use Rattle.fuse_body.specs.Parts.{IsDone, FusedWords};
+ghost use Rattle.text.specs.Written.{Fits, Written};
+ghost use Rattle.fuse_body.specs.Parts.{Section, FusedWords};
 use definitions::MinimumAnswer;
 use definitions::OuterAnswer;
 use listing::fused_lines;
@@ -14,8 +13,7 @@ use listing::union_lines;
 
 // The columns and T. Where complement union isn't refused, outer union isn't: the first arm is never taken.
 fn put_union(a: &[u32], b: &[u32], table: &mut [u32], out: &mut [u8], at: usize) -> usize
-    requires { ⌜ IsDone (now a) (now b) × (length (now table) ≡ lentTable) ⌝ }
-    requires { ⌜ at + length (unionText (now a) (now b)) ≤ length (now out) ⌝ }
+    requires { ⌜ Section (now a) (now b) (now table) (now out) at (unionText (now a) (now b)) ⌝ }
     ensures { λ r. ⌜ Written (now (out .entry)) at
         (unionText (now (a .entry)) (now (b .entry))) (now (out .exit)) r ⌝ }
 {
@@ -35,8 +33,7 @@ fn put_union(a: &[u32], b: &[u32], table: &mut [u32], out: &mut [u8], at: usize)
 
 // The minimum union. Where complement union isn't refused, minimum union isn't: the first arm is never taken.
 fn put_minimum(a: &[u32], b: &[u32], table: &mut [u32], out: &mut [u8], at: usize) -> usize
-    requires { ⌜ IsDone (now a) (now b) × (length (now table) ≡ lentTable) ⌝ }
-    requires { ⌜ at + length (minimumText (now a) (now b)) ≤ length (now out) ⌝ }
+    requires { ⌜ Section (now a) (now b) (now table) (now out) at (minimumText (now a) (now b)) ⌝ }
     ensures { λ r. ⌜ Written (now (out .entry)) at
         (minimumText (now (a .entry)) (now (b .entry))) (now (out .exit)) r ⌝ }
 {
@@ -68,7 +65,7 @@ pub(crate) fn put_listing(
     out: &mut [u8],
 ) -> usize
     requires { ⌜ FusedWords (now a) (now b) (now fused) rows filled (now sets) count ⌝ }
-    requires { ⌜ (length (now table) ≡ lentTable) × (length (listing (now a) (now b)) ≤ length (now out)) ⌝ }
+    requires { ⌜ (length (now table) ≡ lentTable) × Fits (now out) 0 (listing (now a) (now b)) ⌝ }
     ensures { λ r. ⌜ Written (now (out .entry)) 0
         (listing (now (a .entry)) (now (b .entry))) (now (out .exit)) r ⌝ }
 {

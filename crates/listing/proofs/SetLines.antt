@@ -2,95 +2,95 @@
 use mathlib.Core.Path.{_≡_, refl, sym, _∙_, ap}
 use mathlib.Core.Bool.{Bool}
 use mathlib.Core.List.{List, [], _∷_, _++_, append-assoc, map}
-use Prim.Native.Nat.{ℕ, suc, _+_, _/_, _%_, _^_, _≤_, _<_}
+use Prim.Native.Nat.{ℕ, suc, _+_, _*_, _/_, _%_, _^_, _≤_, _<_}
 use native.Mathlib.Numerals.{add-one}
 use native.Mathlib.Omega.{arith}
 use lib.Dec.{eqb}
-use lib.ListN.{length, getD, drop, drop-of-length-le}
+use lib.ListN.{length, getD, drop, length-append, drop-of-length-le}
 use borrow.Author.Tests.{eq-eqb, ne-eqb}
 use Rattle.definitions.specs.Limits.{markWords}
-use Rattle.definitions.specs.Reading.{setIn, positionsOf, positionIn}
+use Rattle.definitions.specs.Reading.{wordMarks, setIn, positionsOf, positionIn}
 use Rattle.definitions.specs.Text.{ascii, decimal}
-use Rattle.definitions.specs.Listing.{line, setLine}
+use Rattle.definitions.specs.Listing.{titleLine, setLine}
 use Rattle.definitions.proofs.Bools.{bool-cases}
-use Rattle.definitions.proofs.Lines.{later, line-first}
 use Rattle.definitions.proofs.Reading.{marks-length, marks-drop}
-use Rattle.text.specs.Written.{Written}
-use Rattle.text.proofs.Writing.{Writing, starts, rest-as, fits-next, turns, ends, ends-with}
-use Rattle.listing.specs.Lines.{recordLine, listed, markText}
+use Rattle.text.specs.Written.{space, Fits, Written}
+use Rattle.text.proofs.Writing.{Writing, starts, rest-as, fits-next, turns, ends}
+use Rattle.listing.specs.Lines.{positionText, positionsText, recordPositions, recordLine}
+use Rattle.listing.proofs.Fields.{line-next}
 
 -- ---- positions
 
-pub mark-text : (bit p : ℕ) → bit ≡ 1 → markText bit p ≡ decimal p ++ (32 ∷ [])
-mark-text bit p h = rw (eq-eqb bit 1 h)
+module _ (bit p : ℕ) where
+  pub position-text : bit ≡ 1 → positionText bit p ≡ decimal p ++ (space ∷ [])
+  position-text h = rw (eq-eqb bit 1 h)
 
-pub no-mark : (bit p : ℕ) → (bit ≡ 1 → ⊥) → markText bit p ≡ []
-no-mark bit p h = rw (ne-eqb bit 1 h)
+  pub position-length : bit ≡ 1 → length (positionText bit p) ≡ length (decimal p) + 1
+  position-length h = ap length (position-text h) ∙ length-append (decimal p) (space ∷ [])
 
--- what is left of the positions of a record
-abbrev pub positionsLeft : List ℕ → ℕ → List ℕ
-positionsLeft words p = listed (positionsOf p (drop p (setIn markWords words)))
+  pub no-position : (bit ≡ 1 → ⊥) → positionText bit p ≡ []
+  no-position h = rw (ne-eqb bit 1 h)
 
-mark-step : (bit p : ℕ) (s : List Bool) → listed (positionsOf p (eqb bit 1 ∷ s)) ≡ markText bit p ++ listed (positionsOf (suc p) s)
-unfolding listed positionsOf
-mark-step bit p s =
-    bool-cases (eqb bit 1)
-    (λ q. rw q (sym (append-assoc (decimal p) (32 ∷ []) (listed (positionsOf (suc p) s)))))
-    (λ q. rw q refl)
+  position-step : (s : List Bool)
+      → positionsText (positionsOf p (eqb bit 1 ∷ s)) ≡ positionText bit p ++ positionsText (positionsOf (suc p) s)
+  unfolding positionsText positionsOf
+  position-step s =
+      bool-cases (eqb bit 1)
+      (λ q. rw q (sym (append-assoc (decimal p) (space ∷ []) (positionsText (positionsOf (suc p) s)))))
+      (λ q. rw q refl)
 
-module _ (words : List ℕ) (p bit : ℕ) (h : p < 90) (e : bit ≡ getD words (p / 30) 0 / 2 ^ (p % 30) % 2) where
-  next-mark : positionsLeft words p ≡ markText bit p ++ positionsLeft words (p + 1)
-  next-mark =
-      let rest : List Bool = drop (p + 1) (setIn markWords words) in
-      ap (λ (s : List Bool). listed (positionsOf p s)) (marks-drop 90 words p h)
-      ∙ ap (λ (x : ℕ). listed (positionsOf p (eqb x 1 ∷ rest))) (sym e)
-      ∙ mark-step bit p rest
-      ∙ ap (λ (k : ℕ). markText bit p ++ listed (positionsOf k rest)) (sym (add-one p))
+-- the positions of a record from p on
+abbrev pub positionsFrom : List ℕ → ℕ → List ℕ
+positionsFrom words p = positionsText (positionsOf p (drop p (setIn markWords words)))
 
-  module _ {b m whole : List ℕ} {at mid : ℕ} (w : Writing b at whole (positionsLeft words p) m mid) where
-    pub mark-fits : mid + length (markText bit p) ≤ length m
-    mark-fits = fits-next (markText bit p) (positionsLeft words (p + 1)) (rest-as next-mark w)
+-- those before p are written
+pub record PositionsWritten (words b : List ℕ) (at p : ℕ) (m : List ℕ) (mid : ℕ) : Type 0 where
+  pub count : p ≤ wordMarks * markWords
+  pub writing : Writing b at (positionsText (recordPositions words)) (positionsFrom words p) m mid
 
-    pub mark-turn : {a : List ℕ} {end : ℕ} → Written m mid (markText bit p) a end → Writing b at whole (positionsLeft words (p + 1)) a end
-    mark-turn q = turns (positionsLeft words (p + 1)) (rest-as next-mark w) q
+pub positions-start : (words b : List ℕ) (at : ℕ) → Fits b at (positionsText (recordPositions words)) → PositionsWritten words b at 0 b at
+positions-start words b at h = record { count = omega arith; writing = starts b at (positionsText (recordPositions words)) h }
 
-pub marks-end : {b m whole : List ℕ} {at mid : ℕ} (words : List ℕ) (p : ℕ) → 90 ≤ p → Writing b at whole (positionsLeft words p) m mid
-    → Written b at whole m mid
-unfolding listed positionsOf
-marks-end words p h w =
-    ends (rest-as (ap (λ (s : List Bool). listed (positionsOf p s))
-    (drop-of-length-le (setIn markWords words) {i = p} (omega (arith, marks-length 90 words)))) w)
+module _ {words b m : List ℕ} {at p mid : ℕ} (w : PositionsWritten words b at p m mid) where
+  module _ (bit : ℕ) (h : p < wordMarks * markWords) (e : bit ≡ getD words (p / wordMarks) 0 / 2 ^ (p % wordMarks) % 2) where
+    next-position : Writing b at (positionsText (recordPositions words)) (positionText bit p ++ positionsFrom words (p + 1)) m mid
+    next-position =
+        let rest : List Bool = drop (p + 1) (setIn markWords words) in
+        rest-as
+        (ap (λ (s : List Bool). positionsText (positionsOf p s)) (marks-drop (wordMarks * markWords) words p h)
+        ∙ ap (λ (x : ℕ). positionsText (positionsOf p (eqb x 1 ∷ rest))) (sym e)
+        ∙ position-step bit p rest
+        ∙ ap (λ (k : ℕ). positionText bit p ++ positionsText (positionsOf k rest)) (sym (add-one p)))
+        (w .writing)
+
+    pub position-fits : Fits m mid (positionText bit p)
+    position-fits = fits-next (positionText bit p) (positionsFrom words (p + 1)) next-position
+
+    pub position-turn : {a : List ℕ} {end : ℕ} → Written m mid (positionText bit p) a end → PositionsWritten words b at (p + 1) a end
+    position-turn q = record { count = omega arith; writing = turns (positionsFrom words (p + 1)) next-position q }
+
+  pub positions-end : wordMarks * markWords ≤ p → Written b at (positionsText (recordPositions words)) m mid
+  unfolding positionsText positionsOf
+  positions-end h =
+      ends (rest-as (ap (λ (s : List Bool). positionsText (positionsOf p s))
+      (drop-of-length-le (setIn markWords words) {i = p} (omega (arith, marks-length (wordMarks * markWords) words)))) (w .writing))
 
 -- ---- the line
 
--- fields with at least one among them, after another field
-later-some : (ps : List ℕ) (f : List ℕ) (fields : List (List ℕ))
-    → later (map decimal ps ++ (f ∷ fields)) ≡ 32 ∷ line (map decimal ps ++ (f ∷ fields))
-later-some [] f fields = ap (λ (l : List ℕ). 32 ∷ l) (sym (line-first f fields))
-later-some (p ∷ ps) f fields = ap (λ (l : List ℕ). 32 ∷ l) (sym (line-first (decimal p) (map decimal ps ++ (f ∷ fields))))
+-- the positions, and then a title line
+set-text : (ps : List ℕ) (position : ℕ) → setLine ps position ≡ positionsText ps ++ titleLine (ascii ">") (position ∷ [])
+unfolding positionsText
+set-text [] position = refl
+set-text (p ∷ []) position = line-next (decimal p) (ascii ">") (decimal position ∷ [])
+set-text (p ∷ q ∷ ps) position =
+    line-next (decimal p) (decimal q) (map decimal ps ++ (ascii ">" ∷ decimal position ∷ []))
+    ∙ ap (λ (l : List ℕ). (decimal p ++ (space ∷ [])) ++ l) (set-text (q ∷ ps) position)
+    ∙ append-assoc (decimal p) (space ∷ []) (positionsText (q ∷ ps) ++ titleLine (ascii ">") (position ∷ []))
+    ∙ sym (append-assoc (decimal p) (space ∷ positionsText (q ∷ ps)) (titleLine (ascii ">") (position ∷ [])))
 
-set-text : (ps : List ℕ) (place : ℕ) → setLine ps place ≡ listed ps ++ (62 ∷ later (decimal place ∷ []))
-unfolding listed
-set-text [] place = line-first (ascii ">") (decimal place ∷ [])
-set-text (p ∷ ps) place =
-    line-first (decimal p) (map decimal ps ++ (ascii ">" ∷ decimal place ∷ []))
-    ∙ ap (λ (l : List ℕ). decimal p ++ l)
-    (later-some ps (ascii ">") (decimal place ∷ []) ∙ ap (λ (l : List ℕ). 32 ∷ l) (set-text ps place))
-    ∙ sym (append-assoc (decimal p) (32 ∷ listed ps) (62 ∷ later (decimal place ∷ [])))
-
-module _ (b : List ℕ) (at : ℕ) (words : List ℕ) (h : at + length (recordLine words) ≤ length b) where
-  abbrev positions : List ℕ
-  positions = listed (positionsOf 0 (setIn markWords words))
-
-  abbrev pub behind : List ℕ
-  behind = later (decimal (positionIn markWords words) ∷ [])
-
-  line-left : Writing b at (recordLine words) (positions ++ (62 ∷ behind)) b at
-  line-left = rest-as (set-text (positionsOf 0 (setIn markWords words)) (positionIn markWords words)) (starts b at (recordLine words) h)
-
-  pub positions-fit : at + length positions ≤ length b
-  positions-fit = fits-next positions (62 ∷ behind) line-left
-
-  -- the positions are written
-  pub set-starts : {a : List ℕ} {end : ℕ} → Written b at positions a end → Writing b at (recordLine words) (62 ∷ behind) a end
-  set-starts w = turns (62 ∷ behind) line-left w
+-- of a record, with the position in its row word
+pub record-text : (words : List ℕ) (n : ℕ) → n ≡ positionIn markWords words
+    → recordLine words ≡ positionsText (recordPositions words) ++ titleLine (ascii ">") (n ∷ [])
+record-text words n e =
+    set-text (recordPositions words) (positionIn markWords words)
+    ∙ ap (λ (k : ℕ). positionsText (recordPositions words) ++ titleLine (ascii ">") (k ∷ [])) (sym e)

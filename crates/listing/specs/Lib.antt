@@ -1,2 +1,2 @@
--- Words of the contracts of this crate: the line of a set's record, and the lines of a table in a buffer.
+-- Words of the contracts of this crate: the lines of a set list and of a table in a buffer.
 pub mod Lines

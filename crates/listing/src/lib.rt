@@ -1,5 +1,5 @@
-// The lines of the program `fuse` of document 01. Each function writes lines into a lent buffer at a place and answers the place behind
-// them; every other byte stays as it was.
+// The lines of the program `fuse` of document 01. Each function writes lines into a lent buffer from byte `at` on, and answers where they
+// end; every other byte stays as it was.
 mod lines;
 mod sets;
 mod tables;

@@ -1,2 +1,2 @@
--- What the functions that write text promise.
+-- What the functions that write text ask for and promise.
 pub mod Written

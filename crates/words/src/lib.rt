@@ -1,6 +1,6 @@
 // The fields of a 32-bit word of an image, by shifts and masks.
 ghost use mathlib.Core.Path.{_≡_};
-ghost use Prim.Native.Nat.{_<_, _^_};
+ghost use Prim.Native.Nat.{_<_, _%_, _^_};
 ghost use Rattle.definitions.specs.Word.{kindOf, wordOf, rowsOf, columnsOf, headerSpare, headerWord, idOf, columnSpare, isCell};
 
 // The two top bits.
@@ -8,6 +8,13 @@ pub fn kind(w: u32) -> u32
     ensures { λ r. ⌜ r ≡ kindOf w ⌝ }
 {
     w >> 30
+}
+
+// The bits below the kind: a cell's number, the marks of a mark word, or a position.
+pub fn low_bits(w: u32) -> u32
+    ensures { λ r. ⌜ r ≡ w % 2 ^ 30 ⌝ }
+{
+    w & 0x3fff_ffff
 }
 
 // Bits 29 to 18 of a header.

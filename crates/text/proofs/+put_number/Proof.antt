@@ -119,8 +119,7 @@ put-number-returns-2 t c =
     let called = last .before .before .before .before in
     let many = called .before .before .if1 .left in
     as-written (sym (decimal-last _ many))
-    (then-written (omega (arith, last-length _ many, called .put-number .ensures .ends, last .put-byte2 .ensures .ends))
-    (called .put-number .ensures) (last .put-byte2 .ensures))
+    (then-written (called .put-number .ensures) (last .put-byte2 .ensures))
 
 pub +put-number-spec : {M : Type 1} → statement M
 +put-number-spec = close μ-put-number λ t. put-number-lts.spec (

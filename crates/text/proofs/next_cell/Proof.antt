@@ -1,6 +1,5 @@
 -- `next_cell` meets its contract: a space, and then the text.
-use Rattle.text.proofs.Writing.{both-written}
-use native.Mathlib.Omega.{arith}
+use Rattle.text.proofs.Writing.{then-written}
 use borrow.Author.Needs.{needs}
 use Rattle.text.proofs.next_cell.Statement.{statement}
 use Rattle.text.proofs.next_cell.Tie as tie
@@ -16,8 +15,8 @@ same-length c = search needs
 
 returns : tie.Need-returns
 returns c =
-    let written = c .before .before in
-    both-written (omega arith) (written .before .before .before .before .put-byte .ensures) (written .put-cell .ensures)
+    let last = c .before .before in
+    then-written (last .before .before .before .before .put-byte .ensures) (last .put-cell .ensures)
 
 pub next-cell-spec : {M : Type 1} → statement M
 next-cell-spec = tie.close (tie.spec put-byte-requires put-cell-requires same-length returns)

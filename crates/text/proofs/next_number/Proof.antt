@@ -1,6 +1,5 @@
--- `next_number` meets its contract: a space, and then the text.
-use Rattle.text.proofs.Writing.{both-written}
-use native.Mathlib.Omega.{arith}
+-- `next_number` meets its contract: a space, and then the digits.
+use Rattle.text.proofs.Writing.{then-written}
 use borrow.Author.Needs.{needs}
 use Rattle.text.proofs.next_number.Statement.{statement}
 use Rattle.text.proofs.next_number.Tie as tie
@@ -16,8 +15,8 @@ same-length c = search needs
 
 returns : tie.Need-returns
 returns c =
-    let written = c .before .before in
-    both-written (omega arith) (written .before .before .before .before .put-byte .ensures) (written .put-number .ensures)
+    let last = c .before .before in
+    then-written (last .before .before .before .before .put-byte .ensures) (last .put-number .ensures)
 
 pub next-number-spec : {M : Type 1} → statement M
 next-number-spec = tie.close (tie.spec put-byte-requires put-number-requires same-length returns)

@@ -1,7 +1,7 @@
 -- `fuse_text` meets its promise: too short a buffer, or the text of the bytes that are read.
 use mathlib.Core.Path.{sym}
 use native.Mathlib.Omega.{arith}
-use lib.ListN.{length, length-take}
+use lib.ListN.{length-take}
 use lib.Seq.{length-take-le}
 use Rattle.fuse_body.proofs.Texts.{read-whole, too-short, written-whole}
 use borrow.Author.Needs.{needs}

@@ -70,7 +70,7 @@ same-length : tie.Need-same-length Inv-loop μ-loop
 same-length c = search needs
 
 returns : tie.Need-returns Inv-loop μ-loop
-returns c = (omega arith, decode-ends _ _ (c .before .loop .i) (omega arith) (c .before .loop .inv .2))
+returns c = record { within = omega arith; holds = decode-ends _ _ (c .before .loop .i) (omega arith) (c .before .loop .inv .2) }
 
 pub decode-spec : {M : Type 1} → statement M
 decode-spec =

@@ -1,60 +1,42 @@
--- `ragged_line` meets its contract: a line of two fields.
-use mathlib.Core.List.{[], _∷_}
-use Rattle.definitions.specs.Text.{ascii}
-use Rattle.text.proofs.Writing.{ends-with}
-use Rattle.listing.proofs.Fields.{first-fits, line-starts, field-fits, field-turn, end-fits}
+-- `ragged_line` meets its contract: a field, and then a title line.
+use mathlib.Core.Path.{sym, ap}
+use native.Mathlib.Omega.{arith}
+use lib.ListN.{length, length-append}
+use Rattle.text.proofs.Writing.{as-written, then-written, behind-fits}
+use Rattle.listing.proofs.Fields.{ragged-text}
 use borrow.Author.Needs.{needs}
 use Rattle.listing.proofs.lines.ragged_line.Statement.{statement}
 use Rattle.listing.proofs.lines.ragged_line.Tie as tie
 
-slice-aggregate-put-text : tie.Need-slice-aggregate-put-text
-slice-aggregate-put-text c = search needs
+slice-aggregate-text-field : tie.Need-slice-aggregate-text-field
+slice-aggregate-text-field c = search needs
 
-put-text-requires : tie.Need-put-text-requires
-put-text-requires c κs =
+text-field-requires : tie.Need-text-field-requires
+text-field-requires c κs =
     let s = c .before .before .before .before in
-    first-fits (s .args .out .now) (s .args .at) (ascii "ragged") (s .args .name .now ∷ []) (s .pre)
+    omega (arith, simp length-append at (ap length (ragged-text (s .args .name .now))))
 
-next-word-requires : tie.Need-next-word-requires
-next-word-requires c κs =
-    let at-put-text = c .before .before .before in
-    let s = at-put-text .before .before .before .before .before in
-    let name = s .args .name .now in
-    field-fits name [] (line-starts (s .args .out .now) (s .args .at) (ascii "ragged") (name ∷ []) (s .pre)
-    (at-put-text .put-text .ensures))
+slice-aggregate-title-line : tie.Need-slice-aggregate-title-line
+slice-aggregate-title-line c = search needs
 
-put-byte-requires : tie.Need-put-byte-requires
-put-byte-requires c κs =
-    let at-next-word = c .before .before .before in
-    let at-put-text = at-next-word .before .before .before .before in
-    let s = at-put-text .before .before .before .before .before in
-    let name = s .args .name .now in
-    end-fits
-    (field-turn name [] (line-starts (s .args .out .now) (s .args .at) (ascii "ragged") (name ∷ []) (s .pre)
-    (at-put-text .put-text .ensures)) (at-next-word .next-word .ensures))
+title-line-requires : tie.Need-title-line-requires
+title-line-requires c κs = behind-fits _ (ragged-text _) (c .before .before .before .before .before .before .before .before .before .pre) (c .before .before .before .before .text-field .ensures)
 
 same-length : tie.Need-same-length
 same-length c = search needs
 
 returns : tie.Need-returns
 returns c =
-    let at-put-byte = c .before .before in
-    let at-next-word = at-put-byte .before .before .before .before in
-    let at-put-text = at-next-word .before .before .before .before in
-    let s = at-put-text .before .before .before .before .before in
-    let name = s .args .name .now in
-    ends-with
-    (field-turn name [] (line-starts (s .args .out .now) (s .args .at) (ascii "ragged") (name ∷ []) (s .pre)
-    (at-put-text .put-text .ensures)) (at-next-word .next-word .ensures))
-    (at-put-byte .put-byte .ensures)
+    let begun = c .before .before .before .before .before .before .before in
+    as-written (sym (ragged-text _)) (then-written (begun .text-field .ensures) (c .before .before .title-line .ensures))
 
 pub ragged-line-spec : {M : Type 1} → statement M
 ragged-line-spec =
     tie.close
     (tie.spec
-    slice-aggregate-put-text
-    put-text-requires
-    next-word-requires
-    put-byte-requires
+    slice-aggregate-text-field
+    text-field-requires
+    slice-aggregate-title-line
+    title-line-requires
     same-length
     returns)

@@ -1,64 +1,50 @@
 -- `row_line` meets its contract: what is written so far and the cells that are left are the line.
-use Prim.Native.Nat.{_+_, _-_, _≤_}
+use Prim.Native.Nat.{_-_}
 use mathlib.Core.Path.{sym, ap}
 use mathlib.Core.List.{map}
 use native.Mathlib.Omega.{arith}
-use lib.ListN.{length, drop}
+use lib.ListN.{length, drop, length-append}
 use Rattle.definitions.specs.Text.{cellText}
-use Rattle.definitions.specs.Listing.{rowLine}
 use Rattle.definitions.proofs.Lines.{later}
-use Rattle.text.proofs.Writing.{as-written, Writing, same-room, starts, rest-as, rest-fits, ends-with}
-use Rattle.listing.proofs.Fields.{no-fields, some-fit, fields-start, fields-fit, fields-turn, fields-end-fits, fields-end}
+use Rattle.text.proofs.Writing.{as-written, then-written, behind-fits, same-room}
+use Rattle.listing.proofs.Fields.{no-fields, some-fields, Fields, fields-start, field-fits, field-turn, end-fits, line-ends}
 use borrow.Author.Needs.{needs}
 use Rattle.listing.proofs.lines.row_line.Statement.{statement}
 use Rattle.listing.proofs.lines.row_line.Tie as tie
 
 abbrev Inv-loop : tie.InvT-loop
-Inv-loop out₀ at cells end₀ i₀ out end i =
-    (i ≤ length cells) × Writing out₀ end₀ (later (map cellText (drop 1 cells)))
-    (later (map cellText (drop i cells))) out end
+Inv-loop out₀ at cells end₀ i₀ out end i = Fields cellText cells (later (map cellText (drop 1 cells))) out₀ end₀ i out end
 
 abbrev μ-loop : tie.MeasureT-loop
 μ-loop out₀ at cells end₀ i₀ out end i = length cells - i
 
 put-byte-requires : tie.Need-put-byte-requires Inv-loop μ-loop
-put-byte-requires c κs =
-    let s = c .before .before .before .before in
-    omega (
-      arith,
-      ap length (no-fields cellText (s .args .out .now) (s .args .at) (s .args .cells .now)
-          (c .before .if1 .taken)),
-    )
+put-byte-requires c κs = omega (arith, ap length (no-fields cellText (c .before .before .before .before .args .cells .now) (c .before .if1 .taken)))
 
 same-length : tie.Need-same-length Inv-loop μ-loop
 same-length c = search needs
 
 returns : tie.Need-returns Inv-loop μ-loop
 returns c =
-    let at-put-byte = c .before .before in
-    let at-if1 = at-put-byte .before .before in
-    let s = at-if1 .before .before .before in
-    as-written (sym (no-fields cellText (s .args .out .now) (s .args .at) (s .args .cells .now)
-    (at-if1 .if1 .taken))) (at-put-byte .put-byte .ensures)
+    let none = c .before .before .before .before in
+    let text = no-fields cellText (none .before .before .before .args .cells .now) (none .if1 .taken) in
+    as-written (sym text) (c .before .before .put-byte .ensures)
 
 shared-slice-read-put-cell : tie.Need-shared-slice-read-put-cell Inv-loop μ-loop
 shared-slice-read-put-cell c = search needs
 
 put-cell-requires : tie.Need-put-cell-requires Inv-loop μ-loop
 put-cell-requires c κs =
-    let at-if1 = c .before .before in
-    let s = at-if1 .before .before .before in
-    some-fit cellText (s .args .out .now) (s .args .at) (s .args .cells .now) (omega (arith, at-if1 .if1 .left))
-    (s .pre)
+    let some = some-fields cellText (c .before .before .before .before .before .args .cells .now) (omega (arith, c .before .before .if1 .left)) in
+    omega (arith, simp length-append at (ap length some))
 
 loop-holds : tie.Need-loop-holds Inv-loop μ-loop
 loop-holds c =
-    let at-put-cell = c .before .before in
-    let at-if1 = at-put-cell .before .before .before in
-    let s = at-if1 .before .before .before in
-    let begun = fields-start cellText (s .args .out .now) (s .args .at) (s .args .cells .now)
-    (omega (arith, at-if1 .if1 .left)) (s .pre) (at-put-cell .put-cell .ensures) in
-    (omega (arith, at-if1 .if1 .left), starts _ _ _ (rest-fits begun))
+    let begun = c .before .before in
+    let s = begun .before .before .before .before .before .before in
+    let some = some-fields cellText (s .args .cells .now) (omega (arith, begun .before .before .before .if1 .left)) in
+    let room = behind-fits _ some (s .pre) (begun .put-cell .ensures) in
+    fields-start cellText _ 1 (omega (arith, begun .before .before .before .if1 .left)) room
 
 mul-next-cell : tie.Need-mul-next-cell Inv-loop μ-loop
 mul-next-cell c = search needs
@@ -67,9 +53,7 @@ shared-slice-read-next-cell : tie.Need-shared-slice-read-next-cell Inv-loop μ-l
 shared-slice-read-next-cell c = search needs
 
 next-cell-requires : tie.Need-next-cell-requires Inv-loop μ-loop
-next-cell-requires c κs =
-    let turned = c .before .before .before in
-    fields-fit cellText _ (turned .loop .i) (turned .loop .inv .1) (omega arith)
+next-cell-requires c κs = field-fits (c .before .before .before .loop .inv) (omega arith)
 
 add-i : tie.Need-add-i Inv-loop μ-loop
 add-i c = search needs
@@ -78,35 +62,22 @@ loop-less : tie.Need-loop-less Inv-loop μ-loop
 loop-less c = search needs
 
 loop-again : tie.Need-loop-again Inv-loop μ-loop
-loop-again c =
-    let at-next-cell = c .before .before in
-    let turned = at-next-cell .before .before .before .before in (
-      omega arith,
-      fields-turn cellText _ (turned .loop .i) (turned .loop .inv .1) (omega arith)
-          (at-next-cell .next-cell .ensures),
-    )
+loop-again c = field-turn (c .before .before .before .before .before .before .loop .inv) (omega arith) (c .before .before .next-cell .ensures)
 
 put-byte-requires-2 : tie.Need-put-byte-requires-2 Inv-loop μ-loop
-put-byte-requires-2 c κs =
-    let turned = c .before .before in
-    fields-end-fits cellText _ (turned .loop .i) (turned .loop .inv .1) (omega arith)
+put-byte-requires-2 c κs = end-fits (c .before .before .loop .inv) (omega arith)
 
 same-length-2 : tie.Need-same-length-2 Inv-loop μ-loop
-same-length-2 c =
-    let turned = c .before .before .before .before .before in
-    omega (arith, same-room (turned .loop .inv .1))
+same-length-2 c = omega (arith, same-room (c .before .before .before .before .before .loop .inv .writing))
 
 returns-2 : tie.Need-returns-2 Inv-loop μ-loop
 returns-2 c =
-    let at-put-byte2 = c .before .before in
-    let turned = at-put-byte2 .before .before .before in
-    let at-put-cell = turned .before .before .before in
-    let at-if1 = at-put-cell .before .before .before in
-    let s = at-if1 .before .before .before in
-    ends-with
-    (fields-start cellText (s .args .out .now) (s .args .at) (s .args .cells .now) (omega (arith, at-if1 .if1 .left))
-    (s .pre) (at-put-cell .put-cell .ensures))
-    (fields-end cellText _ (turned .loop .i) (turned .loop .inv .1) (omega arith) (at-put-byte2 .put-byte2 .ensures))
+    let written = c .before .before .before .before .before in
+    let begun = written .before .before .before in
+    let s = begun .before .before .before .before .before .before .args in
+    let some = some-fields cellText (s .cells .now) (omega (arith, begun .before .before .before .if1 .left)) in
+    let rest = line-ends (written .loop .inv) (omega arith) (c .before .before .put-byte2 .ensures) in
+    as-written (sym some) (then-written (begun .put-cell .ensures) rest)
 
 pub row-line-spec : {M : Type 1} → statement M
 row-line-spec =

@@ -1,69 +1,55 @@
 -- `put_positions` meets its contract: what is written so far and the positions that are left are all positions.
-use Prim.Native.Nat.{ℕ, _*_, _-_, _/_, _%_, _^_, _≤_}
+use Prim.Native.Nat.{_*_, _-_}
 use native.Mathlib.Omega.{arith}
 use lib.Bits.{and-mask}
-use lib.ListN.{getD}
 use Rattle.definitions.specs.Limits.{markWords}
-use Rattle.definitions.specs.Reading.{markAt, setIn, positionsOf}
-use Rattle.text.proofs.Writing.{Writing, starts, same-room}
-use Rattle.listing.specs.Lines.{listed}
-use Rattle.listing.proofs.SetLines.{positionsLeft, mark-fits, mark-turn, marks-end}
+use Rattle.definitions.specs.Reading.{wordMarks}
+use Rattle.text.proofs.Writing.{same-room}
+use Rattle.listing.proofs.SetLines.{PositionsWritten, positions-start, position-fits, position-turn, positions-end}
+use borrow.Author.Needs.{needs}
 use Rattle.listing.proofs.sets.put_positions.Statement.{statement}
 use Rattle.listing.proofs.sets.put_positions.Tie as tie
 
 abbrev Inv-loop : tie.InvT-loop
-Inv-loop out₀ at set end₀ p₀ out end p =
-    (p ≤ 90) × Writing out₀ at (listed (positionsOf 0 (setIn markWords set))) (positionsLeft set p) out end
+Inv-loop out₀ at set end₀ p₀ out end p = PositionsWritten set out₀ at p out end
 
 abbrev μ-loop : tie.MeasureT-loop
-μ-loop out₀ at set end₀ p₀ out end p = 90 - p
+μ-loop out₀ at set end₀ p₀ out end p = wordMarks * markWords - p
 
 loop-holds : tie.Need-loop-holds Inv-loop μ-loop
-loop-holds c = (omega arith, starts _ _ _ (omega arith))
+loop-holds c = positions-start _ _ _ (omega arith)
 
-mul-put-mark : tie.Need-mul-put-mark Inv-loop μ-loop
-mul-put-mark c = omega arith
+mul-bit : tie.Need-mul-bit Inv-loop μ-loop
+mul-bit c = search needs
 
-shared-slice-read-put-mark : tie.Need-shared-slice-read-put-mark Inv-loop μ-loop
-shared-slice-read-put-mark c = omega arith
+shared-slice-read-bit : tie.Need-shared-slice-read-bit Inv-loop μ-loop
+shared-slice-read-bit c = omega arith
 
-cast-put-mark : tie.Need-cast-put-mark Inv-loop μ-loop
-cast-put-mark c = omega arith
+cast-bit : tie.Need-cast-bit Inv-loop μ-loop
+cast-bit c = omega arith
 
-shr-put-mark : tie.Need-shr-put-mark Inv-loop μ-loop
-shr-put-mark c = omega arith
+shr-bit : tie.Need-shr-bit Inv-loop μ-loop
+shr-bit c = omega arith
 
-put-mark-requires : tie.Need-put-mark-requires Inv-loop μ-loop
-put-mark-requires c κs =
-    let turned = c .before .before .before in
-    let s = turned .before .before .before in
-    let p = turned .loop .p in
-    mark-fits (s .args .set .now) p _ (omega arith) (and-mask (getD (s .args .set .now) (p / 30) 0 / 2 ^ (p % 30)) 1)
-    (turned .loop .inv .1)
+put-position-requires : tie.Need-put-position-requires Inv-loop μ-loop
+put-position-requires c κs = position-fits (c .before .before .before .loop .inv) _ (omega arith) (and-mask _ 1)
 
 add-p : tie.Need-add-p Inv-loop μ-loop
-add-p c = omega arith
+add-p c = search needs
 
 loop-less : tie.Need-loop-less Inv-loop μ-loop
-loop-less c = omega arith
+loop-less c = search needs
 
 loop-again : tie.Need-loop-again Inv-loop μ-loop
 loop-again c =
-    let at-put-mark = c .before .before in
-    let turned = at-put-mark .before .before .before .before in
-    let s = turned .before .before .before in
-    let p = turned .loop .p in (
-      omega arith,
-      mark-turn (s .args .set .now) p _ (omega arith)
-          (and-mask (getD (s .args .set .now) (p / 30) 0 / 2 ^ (p % 30)) 1) (turned .loop .inv .1)
-          (at-put-mark .put-mark .ensures),
-    )
+    let written = c .before .before .before .before .before .before .loop .inv in
+    position-turn written _ (omega arith) (and-mask _ 1) (c .before .before .put-position .ensures)
 
 same-length : tie.Need-same-length Inv-loop μ-loop
-same-length c = same-room (c .before .loop .inv .1)
+same-length c = same-room (c .before .loop .inv .writing)
 
 returns : tie.Need-returns Inv-loop μ-loop
-returns c = marks-end _ (c .before .loop .p) (omega arith) (c .before .loop .inv .1)
+returns c = positions-end (c .before .loop .inv) (omega arith)
 
 pub put-positions-spec : {M : Type 1} → statement M
 put-positions-spec =
@@ -72,11 +58,11 @@ put-positions-spec =
     Inv-loop
     μ-loop
     loop-holds
-    mul-put-mark
-    shared-slice-read-put-mark
-    cast-put-mark
-    shr-put-mark
-    put-mark-requires
+    mul-bit
+    shared-slice-read-bit
+    cast-bit
+    shr-bit
+    put-position-requires
     add-p
     loop-less
     loop-again
