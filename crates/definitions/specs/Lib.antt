@@ -19,3 +19,4 @@ pub mod CInterface
 pub mod Text
 pub mod Listing
 pub mod Program
+pub mod TextPromise

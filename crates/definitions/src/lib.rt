@@ -1,4 +1,4 @@
-// What code and definitions share: the limits, the order of two elements, and the answers of the three calls.
+// What code and definitions share: the limits, the order of two elements, and the answers of the calls.
 mod limits;
 
 pub use limits::MARK_WORDS;
@@ -56,4 +56,10 @@ pub enum ComplementAnswer {
         number: u32,
         table: u32,
     },
+}
+
+// The answer of the program's text: done with its length, or a buffer that is shorter than the longest text.
+pub enum TextAnswer {
+    Done { length: usize },
+    TooShort,
 }

@@ -14,9 +14,9 @@ use Rattle.definitions.specs.Program.{maxBytes, wordsOf, unionsText, readText, 
 use Rattle.definitions.proofs.Bools.{bool-cases}
 use Rattle.definitions.proofs.TextLength.{unions-bound, read-bound, text-bound}
 use Rattle.text.specs.Written.{Fits, Written}
-use Rattle.fuse_body.specs.declared.answer.TextAnswer.{TextAnswer}
-use Rattle.fuse_body.specs.declared.answer.TextAnswer.the-variants.{Done, TooShort}
-use Rattle.fuse_body.specs.Promise.{TextPromise}
+use Rattle.definitions.specs.declared.TextAnswer.{TextAnswer}
+use Rattle.definitions.specs.declared.TextAnswer.the-variants.{Done, TooShort}
+use Rattle.definitions.specs.TextPromise.{TextPromise}
 
 -- a text that is that of two images has room
 pub unions-fit : (out a b text : List ℕ) → text ≡ unionsText a b → maxText ≤ length out → Fits out 0 text

@@ -1,3 +1,2 @@
 -- What the contracts of the program's text cite.
 pub mod Parts
-pub mod Promise

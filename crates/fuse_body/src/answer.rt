@@ -2,10 +2,10 @@
 ghost use Prim.Native.Nat.{_≤_, min};
 ghost use mathlib.Core.Path.{_≡_};
 ghost use lib.ListN.{length};
+ghost use Rattle.definitions.specs.TextPromise.{TextPromise};
 ghost use Rattle.definitions.specs.Program.{maxBytes, maxText, lentTable, unionsText, readText};
 ghost use Rattle.text.specs.Written.{Written};
 ghost use Rattle.fuse_body.specs.Parts.{Lent, FusedAnswer};
-ghost use Rattle.fuse_body.specs.Promise.{TextPromise};
 use crate::file::WORD_BYTES;
 use crate::file::decode;
 use crate::sections::put_listing;
@@ -13,6 +13,7 @@ use definitions::ComplementAnswer;
 use definitions::MAX_COLUMNS;
 use definitions::MAX_SETS;
 use definitions::MAX_UNION_ROWS;
+use definitions::TextAnswer;
 use listing::ragged_line;
 use listing::refused_line;
 
@@ -37,12 +38,6 @@ const TITLE_BYTES: usize = 6 * MAX_COLUMNS + 8 + 4 * 26;
 pub const MAX_TEXT: usize = TITLE_BYTES
     + (2 * MAX_UNION_ROWS + MAX_SETS) * ROW_BYTES
     + MAX_SETS * SET_BYTES;
-
-// Done with the length of the text, or a buffer that is shorter than the longest text.
-pub enum TextAnswer {
-    Done { length: usize },
-    TooShort,
-}
 
 // The text for two images, where complement union answered this and left these words.
 fn put_answer(

@@ -5,6 +5,5 @@ mod output;
 mod sections;
 
 pub use answer::MAX_TEXT;
-pub use answer::TextAnswer;
 pub use answer::fuse_text;
 pub use output::run;

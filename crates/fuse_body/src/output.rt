@@ -2,8 +2,8 @@
 ghost use Rattle.io.specs.Counts.{Counts};
 use crate::answer::BYTES;
 use crate::answer::MAX_TEXT;
-use crate::answer::TextAnswer;
 use crate::answer::fuse_text;
+use definitions::TextAnswer;
 use libc::STDOUT_FILENO;
 
 // Reads the start of a file, and answers how many bytes came. A missing file has none.

@@ -5,9 +5,9 @@ use mathlib.Core.List.{List, _++_}
 use Prim.Native.Nat.{ℕ}
 use lib.Dec.{leb}
 use lib.ListN.{length, drop}
 use Rattle.definitions.specs.Program.{fuseText, maxText}
-use Rattle.fuse_body.specs.declared.answer.TextAnswer.{TextAnswer}
-use Rattle.fuse_body.specs.declared.answer.TextAnswer.the-variants.{Done, TooShort}
+use Rattle.definitions.specs.declared.TextAnswer.{TextAnswer}
+use Rattle.definitions.specs.declared.TextAnswer.the-variants.{Done, TooShort}
 
 -- done with the length of the text, or a buffer of so many bytes is shorter than the longest text
 abbrev pub textAnswer : List ℕ → ℕ → TextAnswer
