@@ -22,7 +22,7 @@ use Rattle.bitsets.proofs.Order.{setBits}
 use Rattle.cliques.specs.Graph.{adjacent, Graph, AllSets}
 use Rattle.cliques.specs.Maximal.{Once, Max, Adds}
 use Rattle.cliques.specs.Search.{rowOf, adjacentBy}
-use Rattle.cliques.specs.Parts.{RowsOf, Listed}
+use Rattle.cliques.specs.Parts.{RowsOf, RanParts}
 use Rattle.cliques.proofs.Sublists.{ascending-once, no-longer}
 use Rattle.cliques.proofs.Maximal.{Simple}
 use Rattle.cliques.proofs.Adds.{adds-same}
@@ -74,7 +74,7 @@ module _ (neighbours : List ℕ) (n : ℕ) (g : Graph neighbours n) where
   start-rows width all fits e = record { n = n; graph = g; bits = fits; inside = λ k h. below-of n k (rw e at h) }
 
   module _ (width : ℕ) (bits-fit : n ≤ width) (list : List ℕ) (found all : ℕ) (pos : 0 < n) (fits : found ≤ length list) (few : found ≤ suc maxSets)
-      (ea : all ≡ rowsBelow n) (l : Listed (rowOf neighbours) (suc maxSets) width all [] (take found list)) where
+      (ea : all ≡ rowsBelow n) (l : RanParts (rowOf neighbours) (suc maxSets) width all [] (take found list)) where
     pub held : length (take found list) ≡ found
     held = length-take-le found list fits
 

@@ -11,7 +11,7 @@ use Rattle.bitsets.specs.Bits.{has, butNot, either, Inside, Sub, sizeBelow}
 use Rattle.bitsets.proofs.Bits.{has-none, but-l, but-out, sub-less}
 use Rattle.cliques.specs.Graph.{adjacent}
 use Rattle.cliques.specs.Search.{rowOf, adjacentBy, Run, stops, lists, joins, leaves, takes, Ran, Ready}
-use Rattle.cliques.specs.Parts.{Part, Common, Parts, ends, fills, next, Listed, RowsOf, Searched}
+use Rattle.cliques.specs.Parts.{Part, Common, Parts, ends, fills, next, RanParts, RowsOf, Searched}
 use Rattle.cliques.proofs.Run.{none-max}
 use Rattle.cliques.proofs.Turns.{simple}
 
@@ -112,17 +112,17 @@ module _ (cap : ℕ) {width : ℕ} {neighbours : List ℕ} {part : ℕ} (r : Row
 
 -- what the list grows to from here on is what it grows to from the start
 abbrev pub Continues : (ℕ → ℕ) → ℕ → ℕ → ℕ → ℕ → List ℕ → Type 0
-Continues N cap n rows rest l = (out : List ℕ) (more : ℕ) → Parts N cap n rest l out more → Listed N cap n rows [] out
+Continues N cap n rows rest l = (out : List ℕ) (more : ℕ) → Parts N cap n rest l out more → RanParts N cap n rows [] out
 
 module _ (N : ℕ → ℕ) (cap n rows : ℕ) where
   pub continue-start : Continues N cap n rows rows []
   continue-start out more p = (more, p)
 
   module _ (rest : ℕ) (l : List ℕ) (c : Continues N cap n rows rest l) where
-    pub continue-end : rest ≡ 0 → Listed N cap n rows [] l
+    pub continue-end : rest ≡ 0 → RanParts N cap n rows [] l
     continue-end e = c l 0 (ends e)
 
-    pub continue-full : cap ≤ length l → Listed N cap n rows [] l
+    pub continue-full : cap ≤ length l → RanParts N cap n rows [] l
     continue-full h = c l 0 (fills h)
 
     pub continue-part : length l < cap → (part left : ℕ) → Part (adjacentBy N) rest part → left ≡ butNot rest part → (out : List ℕ)

@@ -16,7 +16,7 @@ use Rattle.bitsets.proofs.Bits.{but-l, below-of, below-in}
 use Rattle.bitsets.proofs.Sizes.{size-all, size-sub, size-parts, size-some, size-wide}
 use Rattle.cliques.specs.Graph.{adjacent, Graph}
 use Rattle.cliques.specs.Search.{rowOf, Run, stops, lists, joins, leaves, takes, Ready}
-use Rattle.cliques.specs.Parts.{Part, Common, Parts, ends, fills, next, Listed}
+use Rattle.cliques.specs.Parts.{Part, Common, Parts, ends, fills, next, RanParts}
 use Rattle.cliques.proofs.Complete.{held, number}
 
 -- ---- a call on a list that is not full, with f rows undecided
@@ -199,7 +199,7 @@ most-calls N n h p few = omega (arith, calls-most N (suc maxSets) maxUnionRows n
 
 -- of what `list_parts` promises, where there are at most 1,024 maximal sets: at most n calls for each, and one more
 pub few-calls : (neighbours : List ℕ) (n : ℕ) (g : Graph neighbours n) (width : ℕ) (bits : n ≤ width) (list : List ℕ) (found all : ℕ) → 0 < n
-    → found ≤ length list → found ≤ suc maxSets → all ≡ rowsBelow n → (l : Listed (rowOf neighbours) (suc maxSets) width all [] (take found list))
+    → found ≤ length list → found ≤ suc maxSets → all ≡ rowsBelow n → (l : RanParts (rowOf neighbours) (suc maxSets) width all [] (take found list))
     → length (maximalSets (adjacent neighbours) n) ≤ maxSets → l .0 ≤ suc (n * length (maximalSets (adjacent neighbours) n))
 few-calls neighbours n g width bits list found all pos fits few ea l small =
     let number = number neighbours n g width bits list found all pos fits few ea l in

@@ -34,10 +34,10 @@ pub data Parts (N : ℕ → ℕ) (cap width : ℕ) : ℕ → List ℕ → List �
       → Parts N cap width (butNot rows part) (l ++ map (λ s. either s common) new) out more → Parts N cap width rows l out (calls + more)
 
 -- the sets of the rows are listed, with some number of calls
-abbrev pub Listed : (ℕ → ℕ) → ℕ → ℕ → ℕ → List ℕ → List ℕ → Type 0
-Listed N cap width rows l out = (calls : ℕ) × Parts N cap width rows l out calls
+abbrev pub RanParts : (ℕ → ℕ) → ℕ → ℕ → ℕ → List ℕ → List ℕ → Type 0
+RanParts N cap width rows l out = (calls : ℕ) × Parts N cap width rows l out calls
 
--- a list whose elements from one place to another are changed by f
+-- a list whose elements from one index to another are changed by f
 abbrev pub changed : ℕ → ℕ → (ℕ → ℕ) → List ℕ → List ℕ
 changed from to f l = take from l ++ (map f (take (to - from) (drop from l)) ++ drop (to - from) (drop from l))
 

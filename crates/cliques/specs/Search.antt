@@ -90,7 +90,7 @@ pub record Asked (width : ℕ) (neighbours : List ℕ) (decided set i : ℕ) : T
   pub row : i < n
 
 -- r holds the rows of `start` that complement each row of the set
-pub record Free (adjacent : ℕ → ℕ → Bool) (set start r : ℕ) : Type 0 where
+pub record FreeRows (adjacent : ℕ → ℕ → Bool) (set start r : ℕ) : Type 0 where
   pub within : Sub r start
   pub each : (j k : ℕ) → has set j ≡ true → has r k ≡ true → adjacent j k ≡ true
   pub all : (k : ℕ) → has start k ≡ true → ((j : ℕ) → has set j ≡ true → adjacent j k ≡ true) → has r k ≡ true

@@ -7,10 +7,10 @@ mod search;
 
 use bitsets::below;
 use bitsets::with_row;
+use definitions::MAX_SETS;
+use definitions::MAX_UNION_ROWS;
 use merging::order_sets;
 use parts::list_parts;
-pub use search::MAX_ROWS;
-pub use search::MAX_SETS;
 ghost use mathlib.Core.Path.{_≡_};
 ghost use Prim.Native.Nat.{suc, _≤_};
 ghost use lib.ListN.{length};
@@ -18,9 +18,14 @@ ghost use Rattle.definitions.specs.Limits.{maxSets, maxUnionRows};
 ghost use Rattle.cliques.specs.Graph.{Graph, AllSets};
 
 // Lists the maximal sets of the first n rows, and gives their number: of more than 1,024 it gives 1,025, and what the list holds is open.
-pub fn find_sets(neighbours: &[u64; MAX_ROWS], n: usize, list: &mut [u64; MAX_SETS + 1]) -> usize
+pub fn find_sets(
+    neighbours: &[u64; MAX_UNION_ROWS],
+    n: usize,
+    list: &mut [u64; MAX_SETS + 1],
+) -> usize
     requires { ⌜ Graph (now neighbours) n × (n ≤ maxUnionRows) × (suc maxSets ≤ length (now list)) ⌝ }
-    ensures { λ r. ⌜ (length (now (list .exit)) ≡ length (now (list .entry))) × AllSets (now (neighbours .entry)) n (now (list .exit)) r ⌝ }
+    ensures { λ r. ⌜ (length (now (list .exit)) ≡ length (now (list .entry)))
+        × AllSets (now (neighbours .entry)) n (now (list .exit)) r ⌝ }
 {
     if n == 0 {
         return 0;

@@ -21,7 +21,7 @@ use Rattle.definitions.proofs.Counts.{fused-count, set-list-length}
 use Rattle.definitions.proofs.SetWords.{fused-position-within}
 use Rattle.lists.proofs.Flat.{rows-length}
 use Rattle.cliques.specs.Graph.{adjacent, AllSets}
-use Rattle.rows.specs.Numbers.{rowsAt, Below, Ordered}
+use Rattle.rows.specs.Indices.{rowsAt, Below, Ordered}
 use Rattle.fusing.specs.Graph.{GraphOf}
 use Rattle.fusing.specs.Records.{placesIn, recordOf, recordsOf, listOf}
 use Rattle.fusing.proofs.Neighbours.{graph-sets}

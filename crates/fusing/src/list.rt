@@ -1,5 +1,5 @@
 // The set list: the places of the joined rows in the fused table, and the words of each set's record.
-use rows::place_of;
+use rows::position_of;
 use words::header_word;
 use words::word_of;
 ghost use mathlib.Core.Path.{_≡_};
@@ -10,7 +10,7 @@ ghost use lib.Seq.{paste};
 ghost use Rattle.definitions.specs.Limits.{maxSets, setWidth};
 ghost use Rattle.definitions.specs.Word.{wordOf};
 ghost use Rattle.definitions.specs.Image.{rowsIn};
-ghost use Rattle.rows.specs.Numbers.{rowsAt, Below, Ordered};
+ghost use Rattle.rows.specs.Indices.{rowsAt, Below, Ordered};
 ghost use Rattle.fusing.specs.Records.{placesIn, Cleared, Placed, recordOf, listOf};
 
 // The mark words of a record.
@@ -63,7 +63,7 @@ pub fn places_of(
     while k < count {
         let next = at + width;
         if places[k] as usize == m {
-            places[k] = place_of(cells, order, m, &cells[at..next]) as u32;
+            places[k] = position_of(cells, order, m, &cells[at..next]) as u32;
             at = next;
             k += 1;
         } else {

@@ -12,7 +12,7 @@ use lib.Dec.{eqb}
 use lib.ListN.{length, getD, set, take, drop, length-map, length-set, length-take, List·getD-map}
 use lib.Seq.{getD-set-same, getD-set-other}
 use borrow.Author.Tests.{eqb-true, eqb-false}
-use Rattle.definitions.specs.Limits.{maxColumns, maxUnionRows}
+use Rattle.definitions.specs.Limits.{maxColumns}
 use Rattle.definitions.specs.Image.{rowsIn}
 use Rattle.definitions.specs.MinimumUnion.{filled}
 use Rattle.definitions.proofs.Bools.{bool-cases, clash, or-cases}
@@ -20,7 +20,7 @@ use Rattle.definitions.proofs.Lists.{below-cases}
 use Rattle.definitions.proofs.Subsumption.{filled-empties}
 use Rattle.lists.proofs.Flat.{rows-length, rows-at, part-row}
 use Rattle.lists.proofs.Pastes.{Pasted, paste-turn, paste-all, paste-front}
-use Rattle.bitsets.specs.Bits.{has, withRow}
+use Rattle.bitsets.specs.Bits.{has, withRow, wordBits}
 use Rattle.bitsets.proofs.Bits.{bit-at, has-or, has-none, has-with-self, has-with-old, has-with-cases, or-in-l, or-in-r}
 use Rattle.minimum.specs.Candidates.{EqualTo, FullerThan}
 
@@ -77,19 +77,19 @@ module _ (counts : List ℕ) where
   }
 
   -- one row more: its bit goes into the word of its count
-  module _ (words : List ℕ) (n : ℕ) (few : n < maxUnionRows) (there : getD counts n 0 < length words) (inv : EqualTo counts n words) where
+  module _ (words : List ℕ) (n : ℕ) (few : n < wordBits) (there : getD counts n 0 < length words) (inv : EqualTo counts n words) where
     abbrev own : ℕ
     own = getD counts n 0
 
     abbrev word : ℕ
-    word = bitOr (getD words own 0) ((1 * 2 ^ n) % 2 ^ 64)
+    word = bitOr (getD words own 0) ((1 * 2 ^ n) % 2 ^ wordBits)
 
     abbrev new : List ℕ
     new = set words own word
 
     word-is : word ≡ withRow (getD words own 0) n
     unfolding withRow
-    word-is = ap (bitOr (getD words own 0)) (bit-at 64 n few)
+    word-is = ap (bitOr (getD words own 0)) (bit-at wordBits n few)
 
     own-is : (j : ℕ) → has (getD new own 0) j ≡ has (withRow (getD words own 0) n) j
     own-is j = ap (λ (x : ℕ). has x j) (getD-set-same words own word 0 there ∙ word-is)

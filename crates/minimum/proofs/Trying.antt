@@ -122,7 +122,7 @@ module _ {width n : ℕ} {w counts fuller columns : List ℕ} {k : ℕ} (own : k
             (ready .fuller-rows .held (getD counts k 0) i (omega arith) (omega (arith, s .0, count-of i, count-of k)))
             (λ c g some.
             let c-in : c < width = omega (arith, row-long k own) in
-            ap (λ (x : ℕ). has x i) (ready .filled-rows .marks c c-in)
+            ap (λ (x : ℕ). has x i) (ready .filled-rows .words c c-in)
             ∙ filled-has rows c i (omega (arith, rows-length width n w))
             ∙ ⊎-elim
             (λ q. absurd (filled-cell (getD (at k) c 0) some q))

@@ -5,11 +5,10 @@ use mathlib.Core.Bool.{true}
 use mathlib.Core.List.{List, map}
 use Prim.Native.Nat.{ℕ, _*_, _≤_, _<_}
 use lib.ListN.{length, getD}
-use Rattle.definitions.specs.Limits.{maxUnionRows}
 use Rattle.definitions.specs.Word.{isFilled}
 use Rattle.definitions.specs.Image.{rowsIn}
 use Rattle.definitions.specs.MinimumUnion.{filled}
-use Rattle.bitsets.specs.Bits.{has}
+use Rattle.bitsets.specs.Bits.{has, wordBits}
 use Rattle.patterns.specs.Columns.{ColumnsOf}
 
 -- each word holds, of the first n rows, the ones whose count is its number
@@ -25,12 +24,12 @@ pub record FullerThan (counts words : List ℕ) : Type 0 where
 -- the set holds those of the fuller rows that are filled wherever a row is
 pub record Candidates (row : List ℕ) (fuller : ℕ) (columns : List ℕ) (set : ℕ) : Type 0 where
   pub among : (j : ℕ) → has set j ≡ true → has fuller j ≡ true
-  pub held : (j : ℕ) → j < maxUnionRows → has fuller j ≡ true
+  pub held : (j : ℕ) → j < wordBits → has fuller j ≡ true
       → ((c : ℕ) → c < length row → isFilled (getD row c 0) ≡ true → has (getD columns c 0) j ≡ true) → has set j ≡ true
 
 -- n rows of c cells, the counts of their filled cells, the rows with more than so many, and the rows that are filled in each column
 pub record Prepared (c n : ℕ) (w counts fuller columns : List ℕ) : Type 0 where
-  pub few : n ≤ maxUnionRows
+  pub few : n ≤ wordBits
   pub fits : n * c ≤ length w
   pub counted : counts ≡ map filled (rowsIn c n w)
   pub room : (j : ℕ) → getD counts j 0 < length fuller

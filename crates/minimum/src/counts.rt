@@ -3,10 +3,11 @@ ghost use mathlib.Core.Path.{_≡_};
 ghost use mathlib.Core.List.{map};
 ghost use Prim.Native.Nat.{ℕ, _*_, _≤_, _<_};
 ghost use lib.ListN.{length, getD, take};
-ghost use Rattle.definitions.specs.Limits.{maxColumns, maxUnionRows};
+ghost use Rattle.definitions.specs.Limits.{maxColumns};
 ghost use Rattle.definitions.specs.Image.{rowsIn};
 ghost use Rattle.definitions.specs.MinimumUnion.{filled};
 ghost use Rattle.minimum.specs.Candidates.{EqualTo, FullerThan};
+ghost use Rattle.bitsets.specs.Bits.{wordBits};
 
 // Writes the filled cells of each of the first n rows over the first n counts.
 pub(crate) fn fill_counts(cells: &[u32], n: usize, width: usize, counts: &mut [u32])
@@ -24,8 +25,8 @@ pub(crate) fn fill_counts(cells: &[u32], n: usize, width: usize, counts: &mut [u
 }
 
 // Writes for each number the rows with this count, over words that hold no row.
-fn mark_counts(counts: &[u32], words: &mut [u64])
-    requires { ⌜ (length (now counts) ≤ maxUnionRows) × ((j : ℕ) → getD (now counts) j 0 < length (now words)) ⌝ }
+fn rows_by_count(counts: &[u32], words: &mut [u64])
+    requires { ⌜ (length (now counts) ≤ wordBits) × ((j : ℕ) → getD (now counts) j 0 < length (now words)) ⌝ }
     requires { ⌜ ((k : ℕ) → getD (now words) k 0 ≡ 0) ⌝ }
     ensures { λ r. ⌜ EqualTo (now (counts .entry)) (length (now (counts .entry))) (now (words .exit)) ⌝ }
 {
@@ -40,11 +41,11 @@ fn mark_counts(counts: &[u32], words: &mut [u64])
 // Writes for each number the rows with a larger count, over words that hold no row. The number falls, so that the rows with a count from
 // it on grow by those with this count.
 pub(crate) fn fill_fuller(counts: &[u32], words: &mut [u64])
-    requires { ⌜ (length (now counts) ≤ maxUnionRows) × ((j : ℕ) → getD (now counts) j 0 < length (now words)) ⌝ }
+    requires { ⌜ (length (now counts) ≤ wordBits) × ((j : ℕ) → getD (now counts) j 0 < length (now words)) ⌝ }
     requires { ⌜ ((k : ℕ) → getD (now words) k 0 ≡ 0) ⌝ }
     ensures { λ r. ⌜ FullerThan (now (counts .entry)) (now (words .exit)) ⌝ }
 {
-    mark_counts(counts, words);
+    rows_by_count(counts, words);
     let mut fuller = 0;
     let mut k = words.len();
     while 0 < k {

@@ -1,5 +1,5 @@
 // The trying of minimum union: each row of a table is tried with the other rows, until one subsumes it. The rows that none subsumes stay,
-// and are named by their numbers.
+// and are named by their indices.
 mod candidates;
 mod counts;
 mod trial;
@@ -20,7 +20,7 @@ pub struct Kept {
     pub pairs: usize,
 }
 
-// Writes the numbers of the rows that no row subsumes, ascending.
+// Writes the indices of the rows that no row subsumes, ascending.
 fn keep_rows(
     cells: &[u32],
     counts: &[u32],
@@ -50,7 +50,7 @@ fn keep_rows(
     Kept { rows, pairs }
 }
 
-// Writes the numbers of those of the first n rows that none of these subsumes, ascending.
+// Writes the indices of those of the first n rows that none of these subsumes, ascending.
 pub fn minimum_rows(cells: &[u32], n: usize, width: usize, kept: &mut [u32]) -> Kept
     requires { ⌜ (n ≤ maxUnionRows) × (width ≤ maxColumns) × (n * width ≤ length (now cells))
         × (n ≤ length (now kept)) ⌝ }

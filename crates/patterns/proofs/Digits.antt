@@ -29,9 +29,9 @@ bits-snoc (x ∷ s) m = rw (bits-snoc s m, pow-suc 2 (length s)) (doubled m (2 ^
     doubled false p = omega arith
 
 -- the mark of the next position, shifted to its place
-pub mark-next : (width : ℕ) (s : List Bool) (m : Bool) (w b k : ℕ) → k < width → length s ≡ k → w ≡ bits s → b ≡ cond m 1 0
+pub digit-next : (width : ℕ) (s : List Bool) (m : Bool) (w b k : ℕ) → k < width → length s ≡ k → w ≡ bits s → b ≡ cond m 1 0
     → bitOr w (b * 2 ^ k % 2 ^ width) ≡ bits (s ++ (m ∷ []))
-mark-next width s m w b k h e ew eb =
+digit-next width s m w b k h e ew eb =
     let small : b < 2 = rw eb (bit-small m) in
     let at : bits s < 2 ^ k = rw (← e) (bits-small s) in
     ap₂ bitOr ew (shl-exact 1 k width small (omega arith))

@@ -19,7 +19,7 @@ use Rattle.definitions.specs.SetList.{bits}
 use Rattle.lists.proofs.Flat.{words-rows}
 use Rattle.lists.proofs.Walks.{next}
 use Rattle.patterns.specs.Pattern.{patternOf}
-use Rattle.patterns.proofs.Digits.{bit-small, bits-small, mark-next}
+use Rattle.patterns.proofs.Digits.{bit-small, bits-small, digit-next}
 
 -- 1 for a filled cell, 0 for the empty cell
 abbrev pub bitOf : ℕ → ℕ
@@ -47,7 +47,7 @@ pub pattern-turn : (row : List ℕ) (i p b : ℕ) → length row ≤ maxColumns 
 unfolding patternOf
 pattern-turn row i p b few h e f =
     let x = getD row i 0 in
-    mark-next 32 (map isFilled (take i row)) (isFilled x) p b i (omega arith) (length-map (take i row) isFilled ∙ length-take-le i row (omega arith)) e f
+    digit-next 32 (map isFilled (take i row)) (isFilled x) p b i (omega arith) (length-map (take i row) isFilled ∙ length-take-le i row (omega arith)) e f
     ∙ ap bits (sym (map-append isFilled (take i row) (x ∷ [])))
     ∙ ap patternOf (sym (take-suc row i 0 h) ∙ ap (λ (n : ℕ). take n row) (sym (add-one i)))
 

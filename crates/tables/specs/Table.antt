@@ -8,7 +8,7 @@ use Rattle.definitions.specs.Image.{rowsIn}
 use Rattle.definitions.specs.OuterUnion.{widenedRows, unionIds}
 use Rattle.definitions.specs.Questions.{imageNumber}
 use Rattle.tables.specs.declared.Table.{Table}
-use Rattle.tables.specs.Places.{inOrder, BothIds}
+use Rattle.tables.specs.UnionIds.{inOrder, BothIds}
 
 -- the rows of two images, each with a cell for every column of the union, one after the other
 abbrev pub bothRows : List ℕ → List ℕ → List (List ℕ)
@@ -36,7 +36,7 @@ pub record CellsOf (rows : List (List ℕ)) (width n : ℕ) (cells : List ℕ) :
   pub cell-words : length cells ≡ maxUnionRows * maxColumns
 
 -- the table with these column ids and rows
-pub record Holds (t : Table) (union : List ℕ) (rows : List (List ℕ)) : Type 0 where
+pub record TableOf (t : Table) (union : List ℕ) (rows : List (List ℕ)) : Type 0 where
   pub columns : t .columns ≡ length union
   pub ids : take (t .columns) (t .ids) ≡ union
   pub rows-are : rowsIn (t .columns) (t .rows) (t .cells) ≡ rows

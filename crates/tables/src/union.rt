@@ -1,5 +1,5 @@
 // T, the outer union of two accepted images, in a table in work. The columns' ids may stand in any order, as they do before they are in the
-// table: a column's place is the number of smaller ids.
+// table: a column's index is the number of smaller ids.
 ghost use mathlib.Core.Path.{_≡_};
 ghost use Prim.Native.Nat.{ℕ, _*_, _≤_};
 ghost use lib.ListN.{length, getD};

@@ -16,15 +16,15 @@ use Rattle.definitions.specs.Answer.{Outcome, done, refused, unless, no}
 use Rattle.definitions.specs.Calls.{fusedImage, complementOutcome}
 use Rattle.definitions.proofs.Counts.{set-list-length}
 use Rattle.lists.proofs.Flat.{rows-length}
-use Rattle.rows.specs.Numbers.{rowsAt, Below, Ordered}
-use Rattle.rows.proofs.Numbers.{below-fit}
+use Rattle.rows.specs.Indices.{rowsAt, Below, Ordered}
+use Rattle.rows.proofs.Indices.{below-fit}
 use Rattle.cliques.specs.Graph.{Graph, AllSets}
 use Rattle.patterns.specs.Columns.{ColumnsOf}
 use Rattle.fusing.specs.Graph.{GraphOf}
 use Rattle.fusing.specs.Records.{placesIn, listOf}
 use Rattle.fusing.proofs.Fused.{sets-many, sets-few, sets-listed, ordered-fused, places-known, places-below, list-written}
 use Rattle.tables.specs.declared.Table.{Table}
-use Rattle.tables.specs.Table.{Found, Holds}
+use Rattle.tables.specs.Table.{Found, TableOf}
 use Rattle.unions.specs.Fused.{SetsOf, WorkTable, ListedTable, FusedOf, Roomy, fusedOutcome, FusedInto, FusedUnion}
 use Rattle.unions.proofs.Pairs.{refuses, passes, pair-accepted, asked-no, asked-yes}
 use Rattle.unions.proofs.Numbered.{Named, Written, named-words, named-written, named-values}
@@ -179,7 +179,7 @@ module _ {all : List ℕ} {width : ℕ} {cells : List ℕ} {n : ℕ} (w : WorkTa
 -- ---- the call
 
 -- T in a table in work
-module _ {a b all : List ℕ} (f : Found a b all) {t : Table} (h : Holds t (unionIds a b) (unionRows a b)) where
+module _ {a b all : List ℕ} (f : Found a b all) {t : Table} (h : TableOf t (unionIds a b) (unionRows a b)) where
   pub work-table : WorkTable (t .ids) (t .columns) (t .cells) (t .rows)
   work-table = record {
     few-columns = h .few-columns;

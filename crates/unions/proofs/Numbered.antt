@@ -11,7 +11,7 @@ use Rattle.definitions.specs.Word.{headerWord, columnWord}
 use Rattle.definitions.specs.Image.{imageOf, rowsIn}
 use Rattle.definitions.specs.MinimumUnion.{filled}
 use Rattle.lists.proofs.Walks.{part-tail}
-use Rattle.rows.specs.Numbers.{rowAt, rowsAt, Fit}
+use Rattle.rows.specs.Indices.{rowAt, rowsAt, Fit}
 use Rattle.rows.proofs.Writing.{row-words-length, rows-stand}
 use Rattle.unions.proofs.Results.{image-written}
 

@@ -14,7 +14,7 @@ use Rattle.definitions.specs.Questions.{imageNumber}
 use Rattle.definitions.specs.Answer.{Outcome, refused, unless, no}
 use Rattle.definitions.specs.Calls.{pairNumber}
 use Rattle.unions.specs.declared.questions.Checks.{Checks}
-use Rattle.tables.specs.Places.{BothIds}
+use Rattle.tables.specs.UnionIds.{BothIds}
 use Rattle.tables.specs.Table.{Found}
 use Rattle.tables.proofs.IdLaws.{both-count}
 use Rattle.unions.specs.Pair.{Checked}

@@ -11,7 +11,7 @@ use Rattle.definitions.specs.ComplementUnion.{unionSets, fusedRows}
 use Rattle.definitions.specs.SetList.{bits, fusedPosition, setList}
 use Rattle.definitions.specs.Answer.{Outcome, done, unless, no, afterwards}
 use Rattle.definitions.specs.Calls.{tableRoom}
-use Rattle.rows.specs.Numbers.{rowsAt, Fit}
+use Rattle.rows.specs.Indices.{rowsAt, Fit}
 use Rattle.patterns.specs.Columns.{ColumnsOf}
 
 -- r counts the sets where there are at most 1,024 of them, and the list begins with them

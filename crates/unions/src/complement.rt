@@ -25,7 +25,7 @@ fn list_sets(
     n: usize,
     width: usize,
     columns: &[u64],
-    list: &mut [u64; cliques::MAX_SETS + 1],
+    list: &mut [u64; definitions::MAX_SETS + 1],
 ) -> usize
     requires { ⌜ (n ≤ maxUnionRows) × (n * width ≤ length (now cells))
         × ColumnsOf (rowsIn width n (now cells)) width (now columns) × (suc maxSets ≤ length (now list)) ⌝ }
@@ -246,9 +246,9 @@ fn fuse_table<'a>(
 {
     let mut columns = [0u64; Table::MAX_COLUMNS];
     patterns::fill_columns(cells, n, width, &mut columns);
-    let mut list = [0u64; cliques::MAX_SETS + 1];
+    let mut list = [0u64; definitions::MAX_SETS + 1];
     let count = list_sets(cells, n, width, &columns, &mut list);
-    if cliques::MAX_SETS < count {
+    if definitions::MAX_SETS < count {
         return ComplementAnswer::Refused {
             number: 9,
             table: 2,

@@ -8,7 +8,7 @@ ghost use Rattle.definitions.specs.Limits.{maxColumns};
 ghost use Rattle.definitions.specs.Word.{headerWord, columnWord};
 ghost use Rattle.definitions.specs.Image.{imageOf};
 ghost use Rattle.definitions.specs.MinimumUnion.{filled};
-ghost use Rattle.rows.specs.Numbers.{rowsAt, Fit};
+ghost use Rattle.rows.specs.Indices.{rowsAt, Fit};
 
 // Writes the column words of the first n ids, from word 1 of the buffer.
 fn write_ids(buffer: &mut [u32], ids: &[u32], n: usize)

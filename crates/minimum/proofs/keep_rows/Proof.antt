@@ -1,4 +1,4 @@
--- `keep_rows` meets its contract. The loop's invariant: the numbers written name those of the first k rows that stay. Assumes nothing.
+-- `keep_rows` meets its contract. The loop's invariant: the indices written name those of the first k rows that stay. Assumes nothing.
 use borrow.Author.Needs.{needs}
 use Prim.Native.Nat.{_-_, _≤_, _<_}
 use mathlib.Core.Path.{_≡_, refl, _∙_}

@@ -5,7 +5,7 @@ use native.Mathlib.Omega.{arith}
 use borrow.Author.Needs.{needs}
 use borrow.Fn.Kinds.{In}
 use borrow.Fn.PlainCycle.{Measures, is, falls, and}
-use Rattle.definitions.specs.Limits.{maxSets, maxUnionRows}
+use Rattle.definitions.specs.Limits.{maxSets}
 use Rattle.cliques.specs.Search.{rowOf}
 use Rattle.cliques.proofs.Run.{split-some, split-row}
 use Rattle.cliques.proofs.Turns.{Turn, run-stops, run-lists, row-within, row-bit, asked, ready-joins, ready-leaves, ready-takes, run-joins, run-leaves, run-takes}
@@ -21,6 +21,7 @@ use Rattle.cliques.proofs.search.may_take.Reads as may-take-reads
 use Rattle.cliques.proofs.search.take_row.Reads as take-row-reads
 use Rattle.cliques.proofs.search.+search.{statement}
 use Rattle.cliques.proofs.search.+search.Tie.{close}
+use Rattle.bitsets.specs.Bits.{wordBits}
 
 abbrev μ-search : Measures 2 search-kinds.ps ℕ
 μ-search κs a = a .1 .1 .1 .0
@@ -60,7 +61,7 @@ module _ (t : ℕ) where
     undecided-left : start .args .undecided ≡ 0 → ⊥
     undecided-left = w .before .before .before .if2 .left
 
-    turn : Turn maxUnionRows (suc maxSets) (start .args .neighbours .now) (start .args .decided) (start .args .rest) (start .args .undecided)
+    turn : Turn wordBits (suc maxSets) (start .args .neighbours .now) (start .args .decided) (start .args .rest) (start .args .undecided)
         (start .args .set) (start .args .list .now) (start .args .count) (w .before .before .lowest-row .result) (w .before .without-lowest .result)
         (w .with-row .result)
     turn = record {

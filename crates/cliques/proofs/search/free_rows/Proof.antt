@@ -8,14 +8,14 @@ use borrow.Author.Needs.{needs}
 use Rattle.bitsets.specs.Bits.{Inside}
 use Rattle.bitsets.proofs.Bits.{lowest-inside, rest-inside, rest-less}
 use Rattle.cliques.specs.Graph.{adjacent}
-use Rattle.cliques.specs.Search.{rowOf, Free}
+use Rattle.cliques.specs.Search.{rowOf, FreeRows}
 use Rattle.cliques.proofs.Taking.{free-none, free-turn}
 use Rattle.cliques.proofs.search.free_rows.Statement.{statement}
 use Rattle.cliques.proofs.search.free_rows.Tie as tie
 
 abbrev Inv-loop : tie.InvT-loop
 Inv-loop neighbours set start rest₀ word₀ rest word =
-    Inside rest (length neighbours) × ((r : ℕ) → Free (adjacent neighbours) rest word r → Free (adjacent neighbours) set start r)
+    Inside rest (length neighbours) × ((r : ℕ) → FreeRows (adjacent neighbours) rest word r → FreeRows (adjacent neighbours) set start r)
 
 abbrev μ-loop : tie.MeasureT-loop
 μ-loop neighbours set start rest₀ word₀ rest word = rest

@@ -34,7 +34,7 @@ module _ (c : tie.In-loop Inv-loop μ-loop) where
   below : (k : ℕ) → has (getD (start .args .columns .now) (turn .loop .c) 0) k ≡ true → k < start .args .n
   below k h =
       let s = start .args in
-      let marks = start .pre .2 .marks (turn .loop .c) (c .loop-test .taken) in
+      let marks = start .pre .2 .words (turn .loop .c) (c .loop-test .taken) in
       omega (
         arith,
         filled-within (rowsIn (s .width) (s .n) (s .cells .now)) (turn .loop .c) k (ap (λ (x : ℕ). has x k) (sym marks) ∙ h),

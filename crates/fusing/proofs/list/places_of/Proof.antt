@@ -9,7 +9,7 @@ use lib.ListN.{length, take}
 use Rattle.definitions.specs.Image.{rowsIn}
 use Rattle.lists.proofs.Flat.{row-fits}
 use Rattle.lists.proofs.Pastes.{Pasted, paste-none}
-use Rattle.rows.specs.Numbers.{rowsAt}
+use Rattle.rows.specs.Indices.{rowsAt}
 use Rattle.fusing.specs.Records.{placesIn}
 use Rattle.fusing.proofs.Places.{place-listed, place-member, places-turn, places-stay, places-end}
 use Rattle.fusing.proofs.list.places_of.Statement.{statement}
@@ -71,20 +71,20 @@ slice-read-if1 c = place-within (c .before)
 cast-if1 : tie.Need-cast-if1 Inv-loop μ-loop
 cast-if1 c = omega (arith, c .slice-known3 .given (c .before .before .loop .k))
 
-mul-place-of : tie.Need-mul-place-of Inv-loop μ-loop
-mul-place-of c = let w = row-within (c .before .before) in search needs
+mul-position-of : tie.Need-mul-position-of Inv-loop μ-loop
+mul-position-of c = let w = row-within (c .before .before) in search needs
 
-sub-place-of : tie.Need-sub-place-of Inv-loop μ-loop
-sub-place-of c = search needs
+sub-position-of : tie.Need-sub-position-of Inv-loop μ-loop
+sub-position-of c = search needs
 
-part-place-of-start : tie.Need-part-place-of-start Inv-loop μ-loop
-part-place-of-start c = search needs
+part-position-of-start : tie.Need-part-position-of-start Inv-loop μ-loop
+part-position-of-start c = search needs
 
-part-place-of-end : tie.Need-part-place-of-end Inv-loop μ-loop
-part-place-of-end c = let w = row-within (c .before .before) in search needs
+part-position-of-end : tie.Need-part-position-of-end Inv-loop μ-loop
+part-position-of-end c = let w = row-within (c .before .before) in search needs
 
-place-of-requires : tie.Need-place-of-requires Inv-loop μ-loop
-place-of-requires c κs =
+position-of-requires : tie.Need-position-of-requires Inv-loop μ-loop
+position-of-requires c κs =
     let i = c .before .before .before in
     let l = turn i .loop in
     let q = start i in
@@ -96,7 +96,7 @@ place-of-requires c κs =
     )
 
 cast-places : tie.Need-cast-places Inv-loop μ-loop
-cast-places c = omega (arith, c .place-of .ensures .1, start (c .before .before .before .before) .pre .1)
+cast-places c = omega (arith, c .position-of .ensures .1, start (c .before .before .before .before) .pre .1)
 
 mul-places : tie.Need-mul-places Inv-loop μ-loop
 mul-places c = let w = place-within (c .before .before .before .before) in search needs
@@ -119,7 +119,7 @@ loop-again c =
       search needs,
       next-at i,
       places-turn (s .width) (s .count) (s .cells .now) (take (s .m) (s .order .now)) (q .pre .0) (q .pre .3) (l .k) (l .at) (search needs) (l .inv .1)
-          _ (l .places) (c .place-of .result) (omega (arith, marked i .mark-named .ensures .size, q .pre .4)) (c .place-of .ensures .0) (l .inv .2),
+          _ (l .places) (c .position-of .result) (omega (arith, marked i .mark-named .ensures .size, q .pre .4)) (c .position-of .ensures .0) (l .inv .2),
     )
 
 add-k-2 : tie.Need-add-k-2 Inv-loop μ-loop
@@ -166,11 +166,11 @@ places-of-spec =
     mul-if1
     slice-read-if1
     cast-if1
-    mul-place-of
-    sub-place-of
-    part-place-of-start
-    part-place-of-end
-    place-of-requires
+    mul-position-of
+    sub-position-of
+    part-position-of-start
+    part-position-of-end
+    position-of-requires
     cast-places
     mul-places
     slice-write-places

@@ -8,7 +8,7 @@ use lib.ListN.{length, getD, set, take, length-set}
 use lib.Seq.{length-take-le, getD-take}
 use Rattle.definitions.specs.Limits.{maxSets, setWidth}
 use Rattle.lists.proofs.Pastes.{Pasted, paste-none}
-use Rattle.rows.proofs.Numbers.{below-at}
+use Rattle.rows.proofs.Indices.{below-at}
 use Rattle.fusing.specs.Records.{recordsOf}
 use Rattle.fusing.proofs.Records.{records-turn, records-end}
 use Rattle.fusing.proofs.list.write_sets.Statement.{statement}

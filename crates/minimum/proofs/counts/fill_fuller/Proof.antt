@@ -22,16 +22,16 @@ module _ (c : tie.After-slice-known2 Inv-loop μ-loop) where
   start = c .before .before .before .before .before .before
 
   abbrev marked : List ℕ
-  marked = c .before .before .mark-counts .last .1 .0
+  marked = c .before .before .rows-by-count .last .1 .0
 
   equal : EqualTo (start .args .counts .now) (length (start .args .counts .now)) marked
-  equal = c .before .before .mark-counts .ensures
+  equal = c .before .before .rows-by-count .ensures
 
   small : (j : ℕ) → getD (start .args .counts .now) j 0 < length marked
-  small j = omega (arith, start .pre .0 .1 j, c .before .before .mark-counts .kept .1 .0)
+  small j = omega (arith, start .pre .0 .1 j, c .before .before .rows-by-count .kept .1 .0)
 
-mark-counts-requires : tie.Need-mark-counts-requires Inv-loop μ-loop
-mark-counts-requires c κs = c .before .before .before .pre
+rows-by-count-requires : tie.Need-rows-by-count-requires Inv-loop μ-loop
+rows-by-count-requires c κs = c .before .before .before .pre
 
 loop-holds : tie.Need-loop-holds Inv-loop μ-loop
 loop-holds c =
@@ -66,7 +66,7 @@ loop-again c =
     )
 
 same-length : tie.Need-same-length Inv-loop μ-loop
-same-length c = c .before .loop .inv .1 .size ∙ c .before .before .before .before .mark-counts .kept .1 .0
+same-length c = c .before .loop .inv .1 .size ∙ c .before .before .before .before .rows-by-count .kept .1 .0
 
 returns : tie.Need-returns Inv-loop μ-loop
 returns c =
@@ -80,7 +80,7 @@ fill-fuller-spec =
     (tie.spec
     Inv-loop
     μ-loop
-    mark-counts-requires
+    rows-by-count-requires
     loop-holds
     sub-k
     mul-equal

@@ -15,6 +15,7 @@ use Rattle.minimum.proofs.Trying.{CoveredTo, Left, count-there, row-end
 use Rattle.minimum.proofs.Trying.{left-all, next-within, left-next, tried-none, tried-found}
 use Rattle.minimum.proofs.trial.try_row.Statement.{statement}
 use Rattle.minimum.proofs.trial.try_row.Tie as tie
+use Rattle.bitsets.specs.Bits.{wordBits}
 
 abbrev Inv-loop : tie.InvT-loop
 Inv-loop cells counts fuller columns n width k own own-end count rest subsumed₀ looked₀ j at c₀ subsumed looked c =
@@ -25,7 +26,7 @@ abbrev μ-loop : tie.MeasureT-loop
 
 abbrev Inv-rows : tie.InvT-rows
 Inv-rows cells counts fuller columns n width k own own-end count rest₀ subsumed₀ looked₀ rest subsumed looked =
-    (rest < 2 ^ 64) × (subsumed ≡ false) × (looked ≡ n) × Left width n cells k rest
+    (rest < 2 ^ wordBits) × (subsumed ≡ false) × (looked ≡ n) × Left width n cells k rest
 
 abbrev μ-rows : tie.MeasureT-rows
 μ-rows cells counts fuller columns n width k own own-end count rest₀ subsumed₀ looked₀ rest subsumed looked = rest
@@ -53,10 +54,10 @@ module _ (x : tie.In-rows Inv-loop μ-loop Inv-rows μ-rows) where
   start = turn .before .before .before .before .before .before .before .before .before
 
   abbrev next : ℕ
-  next = trailingZeros 64 (turn .rows .rest)
+  next = trailingZeros wordBits (turn .rows .rest)
 
   lowest-of : Lowest (turn .rows .rest) next
-  lowest-of = trailing-lowest 64 (turn .rows .rest) (x .rows-test .taken) (turn .rows .inv .0)
+  lowest-of = trailing-lowest wordBits (turn .rows .rest) (x .rows-test .taken) (turn .rows .inv .0)
 
   adjacent : next < start .args .n
   adjacent = next-within (start .pre .0) (start .pre .1) (turn .rows .inv .3) lowest-of
@@ -112,7 +113,7 @@ rows-holds c =
     )
 
 cast-j : tie.Need-cast-j Inv-loop μ-loop Inv-rows μ-rows
-cast-j c = omega (arith, trailing-le 64 (turn c .rows .rest))
+cast-j c = omega (arith, trailing-le wordBits (turn c .rows .rest))
 
 mul-at : tie.Need-mul-at Inv-loop μ-loop Inv-rows μ-rows
 mul-at c = let e = other-there c in search needs
@@ -192,12 +193,12 @@ returns : tie.Need-returns Inv-loop μ-loop Inv-rows μ-rows
 returns c =
     let l = c .before .before .rows in
     let q = c .before .before .before .before .before .before .before .before .before .before .before in
-    let j = trailingZeros 64 (l .rest) in
+    let j = trailingZeros wordBits (l .rest) in
     ⊎-elim
     (λ w. tried-none (q .pre .0) (q .pre .1) (l .inv .3) (c .others .ensures) (w .0 .left) (w .1 ∙ l .inv .1) (w .2 ∙ l .inv .2))
     (λ w.
     let d = columns-covered (q .pre .0) (q .pre .1) j (w .1 .c) (omega (arith, w .2 .taken)) (w .1 .inv .1) in
-    tried-found (q .pre .0) (q .pre .1) (l .inv .3) (c .others .ensures) j (trailing-lowest 64 (l .rest) (w .0 .taken) (l .inv .0)) d (w .3) (w .4))
+    tried-found (q .pre .0) (q .pre .1) (l .inv .3) (c .others .ensures) j (trailing-lowest wordBits (l .rest) (w .0 .taken) (l .inv .0)) d (w .3) (w .4))
     (c .before .rows-test .came)
 
 pub try-row-spec : {M : Type 1} → statement M

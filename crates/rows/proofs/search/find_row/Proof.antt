@@ -3,8 +3,8 @@ use Prim.Native.Nat.{_+_, _-_, _/_}
 use native.Mathlib.Omega.{arith}
 use lib.ListN.{length}
 use borrow.Author.Needs.{needs}
-use Rattle.rows.proofs.Numbers.{fit-named}
-use Rattle.rows.proofs.Places.{Sought, search-all, search-over, search-before, search-after, search-same}
+use Rattle.rows.proofs.Indices.{fit-named}
+use Rattle.rows.proofs.Positions.{Sought, search-all, search-over, search-before, search-after, search-same}
 use Rattle.rows.proofs.search.find_row.Statement.{statement}
 use Rattle.rows.proofs.search.find_row.Tie as tie
 

@@ -1,8 +1,8 @@
--- The numbers of the distinct rows, ascending, and the rows written by them.
+-- The indices of the distinct rows, ascending, and the rows written by them.
 use lib.ListN.{length, take}
 use native.Mathlib.Omega.{arith}
 use Rattle.definitions.specs.Limits.{maxUnionRows}
-use Rattle.rows.proofs.Numbers.{below-fit}
+use Rattle.rows.proofs.Indices.{below-fit}
 use Rattle.tables.proofs.UnionLaws.{few-words, cells-ordered}
 use borrow.Author.Needs.{needs}
 use Rattle.tables.proofs.union.order_cells.Statement.{statement}

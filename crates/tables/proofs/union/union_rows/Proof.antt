@@ -2,7 +2,7 @@
 use mathlib.Core.Path.{_∙_, ap}
 use native.Mathlib.Omega.{arith}
 use lib.ListN.{length}
-use Rattle.definitions.specs.Limits.{maxUnionRows}
+use Rattle.definitions.specs.Limits.{maxUnionRows, maxColumns}
 use Rattle.definitions.specs.Ascending.{ascending}
 use Rattle.definitions.specs.OuterUnion.{compareRow, unionRows}
 use Rattle.tables.proofs.Scatter.{empty-cells}
@@ -10,9 +10,10 @@ use Rattle.tables.proofs.UnionLaws.{few-words}
 use borrow.Author.Needs.{needs}
 use Rattle.tables.proofs.union.union_rows.Statement.{statement}
 use Rattle.tables.proofs.union.union_rows.Tie as tie
+use Prim.Native.Nat.{_*_}
 
 widen-both-requires : tie.Need-widen-both-requires
-widen-both-requires c κs = (c .before .before .before .before .pre, empty-cells 1024)
+widen-both-requires c κs = (c .before .before .before .before .pre, empty-cells (maxUnionRows * maxColumns))
 
 slice-aggregate-order-cells : tie.Need-slice-aggregate-order-cells
 slice-aggregate-order-cells c = search needs

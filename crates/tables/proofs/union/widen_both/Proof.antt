@@ -7,7 +7,7 @@ use lib.ListN.{length}
 use Rattle.definitions.specs.Limits.{maxRows}
 use Rattle.definitions.specs.OuterUnion.{widenedRows}
 use Rattle.definitions.proofs.Questions.{passed-is}
-use Rattle.tables.specs.Places.{inOrder, Covers}
+use Rattle.tables.specs.UnionIds.{inOrder, Covers}
 use Rattle.tables.proofs.Smaller.{distinct-count}
 use Rattle.tables.proofs.UnionLaws.{Counted, rows-few, first-fits, few-first, second-fits, second-empty, both-widened, union-covers}
 use borrow.Author.Needs.{needs}

@@ -10,17 +10,17 @@ use Rattle.definitions.specs.Image.{rowCount}
 use Rattle.definitions.proofs.Questions.{passed-is}
 use Rattle.lists.proofs.Pastes.{paste-all}
 use Rattle.definitions.specs.OuterUnion.{widenedRows}
-use Rattle.tables.specs.Places.{inOrder}
+use Rattle.tables.specs.UnionIds.{inOrder}
 use Rattle.tables.proofs.Smaller.{distinct-count}
 use Rattle.tables.proofs.WidenLaws.{Widening, widen-starts, source-within, target-within, cells-within, widen-turn}
 use Rattle.tables.proofs.widen.widen_rows.Statement.{statement}
 use Rattle.tables.proofs.widen.widen_rows.Tie as tie
 
 abbrev Inv-loop : tie.InvT-loop
-Inv-loop image all places cells₀ at header columns rows width i₀ from₀ to₀ cells i from to = Widening image (inOrder all) cells₀ at columns i from to cells
+Inv-loop image all indices cells₀ at header columns rows width i₀ from₀ to₀ cells i from to = Widening image (inOrder all) cells₀ at columns i from to cells
 
 abbrev μ-loop : tie.MeasureT-loop
-μ-loop image all places cells₀ at header columns rows width i₀ from₀ to₀ cells i from to = rows - i
+μ-loop image all indices cells₀ at header columns rows width i₀ from₀ to₀ cells i from to = rows - i
 
 shared-slice-read-header : tie.Need-shared-slice-read-header Inv-loop μ-loop
 shared-slice-read-header c =
@@ -48,7 +48,7 @@ loop-holds c =
     let s = q .args in
     widen-starts (s .image .now) (inOrder (s .all .now)) (s .cells .now) (s .at) _ (q .pre .0 .0) (c .before .columns .ensures) (q .pre .1 .0)
 
--- in the loop: there is a row more, it is within the image, and its place within the cells
+-- in the loop: there is a row more, it is within the image, and its index within the cells
 module _ (c : tie.In-loop Inv-loop μ-loop) where
   abbrev turn : tie.At-loop Inv-loop μ-loop
   turn = c .before
@@ -88,7 +88,7 @@ widen-row-requires : tie.Need-widen-row-requires Inv-loop μ-loop
 widen-row-requires c κs =
     let l = c .before .before in
     let q = start l in
-    cells-within (turn l .loop .inv) (more l) (q .args .places .now) (q .pre .0 .2) (q .pre .0 .3)
+    cells-within (turn l .loop .inv) (more l) (q .args .indices .now) (q .pre .0 .2) (q .pre .0 .3)
 
 add-to : tie.Need-add-to Inv-loop μ-loop
 add-to c = let w = target (c .before .before .before .before .before) in search needs
@@ -104,7 +104,7 @@ loop-again c =
     let k = c .before .before in
     let l = k .before .before .before in
     let q = start l in
-    let next = widen-turn (turn l .loop .inv) (more l) (q .args .places .now) (q .pre .0 .2) (q .pre .0 .3) (q .pre .1 .1) _ (k .widen-row .ensures) in
+    let next = widen-turn (turn l .loop .inv) (more l) (q .args .indices .now) (q .pre .0 .2) (q .pre .0 .3) (q .pre .1 .1) _ (k .widen-row .ensures) in
     rw (even l) at next
 
 same-length : tie.Need-same-length Inv-loop μ-loop

@@ -7,8 +7,8 @@ use lib.Seq.{length-take-le}
 use Rattle.definitions.specs.OuterUnion.{unionIds, unionRows}
 use Rattle.definitions.specs.Calls.{complementOutcome}
 use Rattle.tables.specs.declared.Table.{Table}
-use Rattle.tables.specs.Table.{Found, Holds}
-use Rattle.tables.proofs.UnionLaws.{filled-holds}
+use Rattle.tables.specs.Table.{Found, TableOf}
+use Rattle.tables.proofs.UnionLaws.{filled-table}
 use Rattle.unions.proofs.Pairs.{pair-refused}
 use Rattle.unions.proofs.ComplementLaws.{work-table, union-promised}
 use Rattle.unions.proofs.DemandLaws.{promised}
@@ -69,10 +69,10 @@ work c =
     record { cells = c .union-rows .last .1 .1 .1 .0; ids = new .ids; rows = c .union-rows .result; columns = new .columns }
 
 held : (c : tie.After-union-rows)
-    → (let s = start (accepted c) .args in Holds (work c) (unionIds (s .a .now) (s .b .now)) (unionRows (s .a .now) (s .b .now)))
+    → (let s = start (accepted c) .args in TableOf (work c) (unionIds (s .a .now) (s .b .now)) (unionRows (s .a .now) (s .b .now)))
 held c =
     let n = c .before .before .new in
-    filled-holds (found (accepted c)) (n .result) (n .ensures) refl refl (c .union-rows .ensures)
+    filled-table (found (accepted c)) (n .result) (n .ensures) refl refl (c .union-rows .ensures)
 
 fuse-table-requires : tie.Need-fuse-table-requires
 fuse-table-requires c κs = let t = c .before .before .before .before .before .before .before in work-table (found (accepted t)) (held t)

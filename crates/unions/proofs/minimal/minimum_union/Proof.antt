@@ -9,8 +9,8 @@ use Rattle.definitions.specs.OuterUnion.{unionIds, unionRows}
 use Rattle.definitions.specs.MinimumUnion.{minimumRows, pairsTried}
 use Rattle.definitions.specs.Calls.{minimumImage, minimumOutcome}
 use Rattle.tables.specs.declared.Table.{Table}
-use Rattle.tables.specs.Table.{Found, Holds}
-use Rattle.tables.proofs.UnionLaws.{filled-holds}
+use Rattle.tables.specs.Table.{Found, TableOf}
+use Rattle.tables.proofs.UnionLaws.{filled-table}
 use Rattle.unions.proofs.Numbered.{Named, named-cells, named-asked}
 use Rattle.unions.proofs.Kept.{cells-there, minimum-named}
 use Rattle.unions.proofs.Ends.{refused-pair, refused-room, done-room}
@@ -70,11 +70,11 @@ work c =
     let new = u .before .before .new .result in
     record { cells = u .union-rows .last .1 .1 .1 .0; ids = new .ids; rows = u .union-rows .result; columns = new .columns }
 
-held : (c : tie.After-kept) → (let s = start (accepted c) .args in Holds (work c) (unionIds (s .a .now) (s .b .now)) (unionRows (s .a .now) (s .b .now)))
+held : (c : tie.After-kept) → (let s = start (accepted c) .args in TableOf (work c) (unionIds (s .a .now) (s .b .now)) (unionRows (s .a .now) (s .b .now)))
 held c =
     let u = c .before .before .before .before in
     let n = u .before .before .new in
-    filled-holds (found (accepted c)) (n .result) (n .ensures) refl refl (u .union-rows .ensures)
+    filled-table (found (accepted c)) (n .result) (n .ensures) refl refl (u .union-rows .ensures)
 
 slice-aggregate-minimum-rows : tie.Need-slice-aggregate-minimum-rows
 slice-aggregate-minimum-rows c = search needs

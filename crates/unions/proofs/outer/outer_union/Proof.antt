@@ -8,8 +8,8 @@ use lib.Seq.{length-take-le}
 use Rattle.definitions.specs.OuterUnion.{unionIds, unionRows}
 use Rattle.definitions.specs.Calls.{outerImage, outerOutcome}
 use Rattle.tables.specs.declared.Table.{Table}
-use Rattle.tables.specs.Table.{bothRows, Found, Holds}
-use Rattle.tables.proofs.UnionLaws.{filled-holds}
+use Rattle.tables.specs.Table.{bothRows, Found, TableOf}
+use Rattle.tables.proofs.UnionLaws.{filled-table}
 use Rattle.unions.proofs.Numbered.{Named, named-cells, named-asked}
 use Rattle.unions.proofs.Kept.{cells-there, outer-named}
 use Rattle.unions.proofs.Ends.{refused-pair, refused-room, done-room}
@@ -69,11 +69,11 @@ work c =
     let new = u .before .before .new .result in
     record { cells = u .widen-both .last .1 .1 .1 .0; ids = new .ids; rows = u .widen-both .result; columns = new .columns }
 
-held : (c : tie.After-spare) → (let s = start (accepted c) .args in Holds (work c) (unionIds (s .a .now) (s .b .now)) (bothRows (s .a .now) (s .b .now)))
+held : (c : tie.After-spare) → (let s = start (accepted c) .args in TableOf (work c) (unionIds (s .a .now) (s .b .now)) (bothRows (s .a .now) (s .b .now)))
 held c =
     let u = c .before .before .before .before .before in
     let n = u .before .before .new in
-    filled-holds (found (accepted c)) (n .result) (n .ensures) refl refl (u .widen-both .ensures)
+    filled-table (found (accepted c)) (n .result) (n .ensures) refl refl (u .widen-both .ensures)
 
 slice-aggregate-order-rows : tie.Need-slice-aggregate-order-rows
 slice-aggregate-order-rows c = search needs

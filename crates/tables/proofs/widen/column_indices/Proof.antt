@@ -1,4 +1,4 @@
--- The places of the columns passed stand in the list.
+-- The indices of the columns passed stand in the list.
 use mathlib.Core.Path.{sym, _∙_, ap}
 use mathlib.Core.List.{map}
 use Prim.Native.Nat.{ℕ, _-_, _≤_}
@@ -7,19 +7,19 @@ use native.Mathlib.Omega.{arith}
 use lib.ListN.{length, length-map, List·getD-map}
 use Rattle.definitions.specs.Word.{idOf}
 use Rattle.lists.proofs.Pastes.{Pasted, paste-none, paste-turn, paste-all}
-use Rattle.tables.specs.Places.{smallerThan, placesIn}
+use Rattle.tables.specs.UnionIds.{smallerThan, indicesIn}
 use borrow.Author.Needs.{needs}
-use Rattle.tables.proofs.widen.column_places.Statement.{statement}
-use Rattle.tables.proofs.widen.column_places.Tie as tie
+use Rattle.tables.proofs.widen.column_indices.Statement.{statement}
+use Rattle.tables.proofs.widen.column_indices.Tie as tie
 
 abbrev Inv-loop : tie.InvT-loop
-Inv-loop columns union places₀ j₀ places j = (j ≤ length columns) × Pasted places₀ 0 (placesIn union (map idOf columns)) j places
+Inv-loop columns union indices₀ j₀ indices j = (j ≤ length columns) × Pasted indices₀ 0 (indicesIn union (map idOf columns)) j indices
 
 abbrev μ-loop : tie.MeasureT-loop
-μ-loop columns union places₀ j₀ places j = length columns - j
+μ-loop columns union indices₀ j₀ indices j = length columns - j
 
 loop-holds : tie.Need-loop-holds Inv-loop μ-loop
-loop-holds c = let a = c .before .before .before .args in (search needs, paste-none (a .places .now) 0 (placesIn (a .union .now) (map idOf (a .columns .now))))
+loop-holds c = let a = c .before .before .before .args in (search needs, paste-none (a .indices .now) 0 (indicesIn (a .union .now) (map idOf (a .columns .now))))
 
 mul-id : tie.Need-mul-id Inv-loop μ-loop
 mul-id c = search needs
@@ -33,11 +33,11 @@ id-requires c κs = search needs
 smaller-requires : tie.Need-smaller-requires Inv-loop μ-loop
 smaller-requires c κs = search needs
 
-mul-places : tie.Need-mul-places Inv-loop μ-loop
-mul-places c = search needs
+mul-indices : tie.Need-mul-indices Inv-loop μ-loop
+mul-indices c = search needs
 
-slice-write-places : tie.Need-slice-write-places Inv-loop μ-loop
-slice-write-places c = let z = c .before .before .before .before .loop .inv .1 .size in search needs
+slice-write-indices : tie.Need-slice-write-indices Inv-loop μ-loop
+slice-write-indices c = let z = c .before .before .before .before .loop .inv .1 .size in search needs
 
 add-j : tie.Need-add-j Inv-loop μ-loop
 add-j c = search needs
@@ -55,7 +55,7 @@ loop-again c =
     let n = length-map ids f in
     let x = List·getD-map f ids (l .j) (idOf 0) ∙ ap f (List·getD-map idOf (a .columns .now) (l .j) 0) in (
       search needs,
-      paste-turn (a .places .now) 0 (placesIn (a .union .now) ids) (l .j) _ (l .places) (f (idOf 0)) _ (l .inv .1)
+      paste-turn (a .indices .now) 0 (indicesIn (a .union .now) ids) (l .j) _ (l .indices) (f (idOf 0)) _ (l .inv .1)
           (sym (zero-add (l .j))) (omega arith) (omega arith)
           (c .smaller .ensures ∙ ap f (c .before .id .ensures) ∙ sym x),
     )
@@ -67,10 +67,10 @@ returns : tie.Need-returns Inv-loop μ-loop
 returns c =
     let l = c .before .loop in
     let a = c .before .before .before .before .before .args in
-    paste-all (a .places .now) 0 (placesIn (a .union .now) (map idOf (a .columns .now))) (l .j) (length (a .columns .now)) (l .places) (l .inv .1) (omega arith)
+    paste-all (a .indices .now) 0 (indicesIn (a .union .now) (map idOf (a .columns .now))) (l .j) (length (a .columns .now)) (l .indices) (l .inv .1) (omega arith)
 
-pub column-places-spec : {M : Type 1} → statement M
-column-places-spec =
+pub column-indices-spec : {M : Type 1} → statement M
+column-indices-spec =
     tie.close
     (tie.spec
     Inv-loop
@@ -80,8 +80,8 @@ column-places-spec =
     shared-slice-read-id
     id-requires
     smaller-requires
-    mul-places
-    slice-write-places
+    mul-indices
+    slice-write-indices
     add-j
     loop-less
     loop-again
