@@ -1,19 +1,17 @@
 -- The maximal sets of all rows are those of a part and those of the others; those of a part hold its common rows, and beside them a maximal
 -- set of its other rows. So sets that are listed part by part are all of them, none twice: `parts-adds`. Assumes nothing.
 use mathlib.Core.Path.{_≡_, refl, sym, ap, _∙_, subst}
-use mathlib.Core.Logic.{_⊎_, inl, inr, ⊎-elim}
-use mathlib.Core.Bool.{true, false, _||_}
+use mathlib.Core.Logic.{_⊎_, inl, inr}
 use mathlib.Core.List.{List, _++_, map}
-use Prim.Native.Nat.{ℕ, _≤_, _<_}
+use Prim.Native.Nat.{ℕ, _≤_}
 use native.Mathlib.Omega.{arith}
 use lib.Dec.{eqb}
-use lib.ListN.{length}
 use borrow.Author.Tests.{eqb-true, eqb-false}
 use Rattle.definitions.proofs.Bools.{bool-cases, clash, not-so}
 use Rattle.bitsets.specs.Bits.{has, butNot, either, Inside, Sub, sizeBelow}
 use Rattle.bitsets.proofs.Bits.{In, some, has-none, same-set, but-in, but-l, but-out, either-l, either-r, either-cases}
-use Rattle.cliques.specs.Maximal.{AdjacentToAll, Max, Adds}
-use Rattle.cliques.specs.Search.{adjacentBy, Split, Run}
+use Rattle.cliques.specs.Maximal.{Max, Adds}
+use Rattle.cliques.specs.Search.{adjacentBy, Split}
 use Rattle.cliques.specs.Parts.{Part, Common, Parts, ends, fills, next}
 use Rattle.cliques.proofs.Maximal.{Simple}
 use Rattle.cliques.proofs.Adds.{adds-none, adds-both, adds-map}
@@ -82,7 +80,7 @@ module _ (N : ℕ → ℕ) (n : ℕ) (g : Simple (adjacentBy N) n) where
         either-cases y common k (ap (λ (z : ℕ). has z k) (sym e) ∙ either-l x common k h) (λ p. p)
         (λ p. absurd (core-apart k k (mx .inside k h) p refl))
 
-    pub common-adds : (cap : ℕ) (l new : List ℕ) → Adds (M core) cap l (l ++ new) → Adds (M part) cap l (l ++ map (λ s. either s common) new)
+    common-adds : (cap : ℕ) (l new : List ℕ) → Adds (M core) cap l (l ++ new) → Adds (M part) cap l (l ++ map (λ s. either s common) new)
     common-adds cap l new a =
         adds-map cap (M core) (M part) (λ s. either s common) l new join-max
         (λ x y p q e. same-set x y (same-core x y p q e) (same-core y x q p (sym e))) part-max a

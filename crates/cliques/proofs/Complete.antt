@@ -21,7 +21,7 @@ use Rattle.bitsets.proofs.Bits.{In, some, has-none, has-with-self, has-with-old
 use Rattle.bitsets.proofs.Order.{setBits}
 use Rattle.cliques.specs.Graph.{adjacent, Graph, AllSets}
 use Rattle.cliques.specs.Maximal.{Once, Max, Adds}
-use Rattle.cliques.specs.Search.{rowOf, adjacentBy}
+use Rattle.cliques.specs.Search.{rowOf}
 use Rattle.cliques.specs.Parts.{RowsOf, RanParts}
 use Rattle.cliques.proofs.Sublists.{ascending-once, no-longer}
 use Rattle.cliques.proofs.Maximal.{Simple}
@@ -95,12 +95,12 @@ module _ (neighbours : List ℕ) (n : ℕ) (g : Graph neighbours n) where
     result : Counted (adjacent neighbours) n (suc maxSets) (take found list)
     result = counted (adjacent neighbours) n (simple neighbours n g) (suc maxSets) (take found list) pos (omega (arith, held)) adds
 
-    pub number : found ≡ min (suc maxSets) (length (maximalSets (adjacent neighbours) n))
-    number = sym held ∙ result .count ∙ ap (min (suc maxSets)) (length-map (maximalSets (adjacent neighbours) n) bits)
+    pub sets-counted : found ≡ min (suc maxSets) (length (maximalSets (adjacent neighbours) n))
+    sets-counted = sym held ∙ result .count ∙ ap (min (suc maxSets)) (length-map (maximalSets (adjacent neighbours) n) bits)
 
     -- more than are listed
     pub many-found : maxSets < found → AllSets neighbours n list found
-    many-found many = record { counts = number; lists = λ h. absurd (omega arith) }
+    many-found many = record { counts = sets-counted; lists = λ h. absurd (omega arith) }
 
     -- no more than are listed, and put in order
     pub all-found : found ≤ maxSets → (out : List ℕ) (r : ℕ) → r ≤ length out → take r out ≡ ascending compareBits (take found list)
@@ -109,4 +109,4 @@ module _ (neighbours : List ℕ) (n : ℕ) (g : Graph neighbours n) where
         let whole : take r out ≡ map bits (maximalSets (adjacent neighbours) n) = o ∙ result .sets (omega (arith, held)) in
         let own : r ≡ length (maximalSets (adjacent neighbours) n) =
         sym (length-take-le r out room) ∙ ap length whole ∙ length-map (maximalSets (adjacent neighbours) n) bits in
-        record { counts = omega (arith, number); lists = λ h. whole }
+        record { counts = omega (arith, sets-counted); lists = λ h. whole }

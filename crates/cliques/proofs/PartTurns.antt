@@ -1,8 +1,7 @@
 -- The sets of a part are listed after those that are listed already, and part after part until no row is left. Assumes nothing.
 use mathlib.Core.Path.{_≡_, refl, sym, ap, ap₂, _∙_, subst}
-use mathlib.Core.Bool.{true}
 use mathlib.Core.List.{List, [], _∷_, _++_, map, append-nil, append-assoc}
-use Prim.Native.Nat.{ℕ, suc, _+_, _-_, _≤_, _<_}
+use Prim.Native.Nat.{ℕ, _+_, _-_, _≤_, _<_}
 use native.Mathlib.Omega.{arith}
 use lib.ListN.{length, take, drop, length-append, length-map}
 use lib.Seq.{length-take-le, take-add, take-at, drop-at}
@@ -17,7 +16,7 @@ use Rattle.cliques.proofs.Turns.{simple}
 
 -- ---- a run adds to the list
 
-pub run-extends : {N : ℕ → ℕ} {cap f d rest set calls : ℕ} {l out : List ℕ} → Run N cap f d rest set l out calls → (new : List ℕ) × (out ≡ l ++ new)
+run-extends : {N : ℕ → ℕ} {cap f d rest set calls : ℕ} {l out : List ℕ} → Run N cap f d rest set l out calls → (new : List ℕ) × (out ≡ l ++ new)
 run-extends {l = l} (stops h) = ([], sym (append-nil l))
 run-extends {set = set} (lists h) = (set ∷ [], refl)
 run-extends (joins h s a) = run-extends a

@@ -2,16 +2,14 @@
 use mathlib.Core.Path.{_≡_, refl, sym, ap, _∙_, subst}
 use mathlib.Core.Logic.{_⊎_, inl, inr, ⊎-elim}
 use mathlib.Core.Bool.{true, false}
-use mathlib.Core.List.{List, [], _∷_, _++_}
-use Prim.Native.Nat.{ℕ, zero, suc, _-_, _≤_, _<_}
-use native.Mathlib.Nat.{not-suc-le-zero}
+use mathlib.Core.List.{List}
+use Prim.Native.Nat.{ℕ, zero, suc, _-_, _<_}
 use native.Mathlib.Omega.{arith}
-use lib.ListN.{length}
 use lib.Dec.{eqb}
 use borrow.Author.Tests.{eqb-true, eqb-false}
 use Rattle.definitions.proofs.Bools.{bool-cases, clash, not-so}
 use Rattle.bitsets.specs.Bits.{has, isSub, withRow, Inside, lowest, withoutLowest, sizeBelow}
-use Rattle.bitsets.proofs.Bits.{In, Lowest, at-lowest, has-none, has-ext, has-with-self, has-with-old, has-with-cases, same-set, rest-in, rest-of, rest-out, rest-inside}
+use Rattle.bitsets.proofs.Bits.{In, Lowest, at-lowest, has-none, has-ext, has-with-self, has-with-old, has-with-cases, same-set, rest-in, rest-of, rest-out}
 use Rattle.bitsets.proofs.Sizes.{size-none, size-next, size-zero}
 use Rattle.cliques.specs.Maximal.{Max, Adds}
 use Rattle.cliques.specs.Search.{adjacentBy, kept, taken, MayTake, Split, Run, stops, lists, joins, leaves, takes}
@@ -22,11 +20,11 @@ use Rattle.cliques.proofs.Adds.{adds-none, adds-one, adds-same, adds-bo
 
 module _ {n width d rest f : ℕ} (s : Split n width d rest f) where
   -- the undecided rows have their bits
-  pub ahead-bits : Inside rest width
+  ahead-bits : Inside rest width
   ahead-bits k h = omega (arith, s .ahead k h, s .fits)
 
   -- none is left
-  pub split-none : f ≡ 0 → rest ≡ 0
+  split-none : f ≡ 0 → rest ≡ 0
   split-none e = size-zero width rest ahead-bits (s .counted ∙ e)
 
   pub split-some : (f ≡ 0 → ⊥) → 0 < rest

@@ -92,7 +92,3 @@ module _ (adjacent : ℕ → ℕ → Bool) (n : ℕ) (symmetric : (j k : ℕ) �
         let c = completion adjacent n symmetric (rows s) (rows-complement s max) in
         subst (λ (x : List Bool). Member x (map left (maximalSets adjacent n))) (leaves s max (c .0) (listed-is adjacent n (c .0) .0 (c .1)) (c .2))
         (member-map left (c .0) (maximalSets adjacent n) (c .1))))
-
-  -- of the first rows
-  pub fewer-first : (m : ℕ) → m ≤ n → length (maximalSets adjacent m) ≤ length (maximalSets adjacent n)
-  fewer-first m h = fewer-sets m (λ j. j) (λ j k. omega arith) (λ j k hj hk e. e)

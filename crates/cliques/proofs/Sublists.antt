@@ -11,7 +11,7 @@ use Rattle.definitions.specs.declared.Order.the-variants.{Before, Same, After}
 use Rattle.definitions.specs.Ascending.{put, insert, ascending}
 use Rattle.definitions.specs.Statements.{Member, Orders, StrictlyAscending}
 use Rattle.definitions.proofs.Lists.{map-member}
-use Rattle.definitions.proofs.Ascending.{not-before-self, above-at, above-all, member-split, member-join, same-ascending, ascending-only}
+use Rattle.definitions.proofs.Ascending.{not-before-self, above-at, above-all, member-split, ascending-only}
 use Rattle.cliques.specs.Maximal.{Once}
 
 -- two lists that share no element, one after the other
@@ -62,7 +62,7 @@ module _ {A : Type 0} {compare : A → A → Order} (laws : Orders compare) wher
 
   -- ---- an ascending list whose elements all stand in another list is no longer
 
-  -- the list without the first place of x, which its other elements keep
+  -- the list without the first x, which its other elements keep
   record Without (x : A) (m : List A) : Type 0 where
     rest : List A
     shorter : length m ≡ suc (length rest)

@@ -3,18 +3,17 @@
 use mathlib.Core.Path.{_≡_, refl, sym, ap, _∙_, subst}
 use mathlib.Core.Bool.{Bool, true, false}
 use mathlib.Core.List.{List}
-use Prim.Native.Nat.{ℕ, _≤_, _<_}
+use Prim.Native.Nat.{ℕ, _<_}
 use native.Mathlib.Omega.{arith}
 use lib.Dec.{eqb, ltb}
 use lib.ListN.{length}
 use borrow.Author.Tests.{eqb-true, eqb-false, ltb-true, ltb-false}
-use Rattle.definitions.proofs.Bools.{bool-cases, clash, not-so}
+use Rattle.definitions.proofs.Bools.{bool-cases, clash}
 use Rattle.bitsets.specs.Bits.{has, both, lowest, withoutLowest, Inside, Sub}
-use Rattle.bitsets.proofs.Bits.{In, Lowest, some, has-none, both-in, both-l, both-r, at-lowest, rest-in, rest-of, rest-out}
-use Rattle.cliques.specs.Graph.{adjacent, Graph}
-use Rattle.cliques.specs.Maximal.{AdjacentToAll, Clique, Max}
-use Rattle.cliques.specs.Search.{rowOf, adjacentBy, kept, MayTake, Asked, FreeRows, Met, GrowsBack, Told}
-use Rattle.cliques.proofs.Maximal.{Simple}
+use Rattle.bitsets.proofs.Bits.{In, Lowest, some, has-none, both-in, both-l, both-r, at-lowest, rest-in, rest-of}
+use Rattle.cliques.specs.Graph.{adjacent}
+use Rattle.cliques.specs.Maximal.{AdjacentToAll, Clique}
+use Rattle.cliques.specs.Search.{rowOf, adjacentBy, kept, MayTake, Asked, FreeRows, GrowsBack, Told}
 
 -- ---- the rows that complement each row of a set, row by row
 

@@ -1,5 +1,5 @@
 -- The search for the maximal sets of a part of the rows (Tsukiyama, Ide, Ariyoshi, Shirakawa 1977): when a row may be taken, and what a run
--- of the search is, with the number of its calls. `N j` is the set of the rows that complement row j. No width and no limit stands here.
+-- of the search is, with the count of its calls. `N j` is the set of the rows that complement row j. No width and no limit stands here.
 use mathlib.Core.Path.{_≡_}
 use mathlib.Core.Bool.{Bool, true, false}
 use mathlib.Core.List.{List, [], _∷_, _++_}
@@ -44,7 +44,7 @@ module _ (N : ℕ → ℕ) where
         → ((k : ℕ) → has set k ≡ true → k < j → adjacentBy N j k ≡ true) → ⊥
 
   -- A run of the search: so many undecided rows, the decided ones, the undecided ones, a set that is maximal among the decided rows, the list
-  -- before and after, and the number of calls, with the first.
+  -- before and after, and the count of calls, with the first.
   pub data Run (cap : ℕ) : ℕ → ℕ → ℕ → ℕ → List ℕ → List ℕ → ℕ → Type 0 where
     -- the list is full
     stops : {f d rest set : ℕ} {l : List ℕ} → cap ≤ length l → Run cap f d rest set l l 1
@@ -66,7 +66,7 @@ module _ (N : ℕ → ℕ) where
         → Run cap f (withRow d (lowest rest)) (withoutLowest rest) set mid out more
         → Run cap (suc f) d rest set l out (suc (calls + more))
 
--- a run with some number of calls
+-- a run with some count of calls
 abbrev pub Ran : (ℕ → ℕ) → ℕ → ℕ → ℕ → ℕ → ℕ → List ℕ → List ℕ → Type 0
 Ran N cap undecided decided rest set list out = (calls : ℕ) × Run N cap undecided decided rest set list out calls
 

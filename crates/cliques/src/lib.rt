@@ -1,4 +1,4 @@
-// All maximal complementing sets of a graph of at most 64 rows, in set order, in bounded work. Bit k of neighbours[j] says that the
+// All maximal complementing sets of a graph of at most MAX_UNION_ROWS rows, in set order, in bounded work. Bit k of neighbours[j] says that the
 // rows j and k complement each other; a set of rows is a word whose bit k says that row k is in it.
 mod merging;
 mod ordering;
@@ -17,7 +17,8 @@ ghost use lib.ListN.{length};
 ghost use Rattle.definitions.specs.Limits.{maxSets, maxUnionRows};
 ghost use Rattle.cliques.specs.Graph.{Graph, AllSets};
 
-// Lists the maximal sets of the first n rows, and gives their number: of more than 1,024 it gives 1,025, and what the list holds is open.
+// Lists the maximal sets of the first n rows, and gives their count: of more than MAX_SETS it gives one more than that, and what the
+// list holds is open.
 pub fn find_sets(
     neighbours: &[u64; MAX_UNION_ROWS],
     n: usize,

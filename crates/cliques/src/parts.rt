@@ -15,8 +15,8 @@ ghost use mathlib.Core.List.{[], map};
 ghost use Prim.Native.Nat.{suc, _≤_, _<_};
 ghost use lib.ListN.{length, take};
 ghost use Rattle.definitions.specs.Limits.{maxSets};
-ghost use Rattle.bitsets.specs.Bits.{Inside, either, wordBits};
-ghost use Rattle.cliques.specs.Graph.{adjacent, Graph};
+ghost use Rattle.bitsets.specs.Bits.{either, wordBits};
+ghost use Rattle.cliques.specs.Graph.{adjacent};
 ghost use Rattle.cliques.specs.Search.{rowOf};
 ghost use Rattle.cliques.specs.Parts.{Part, Common, RowsOf, Searched, RanParts, changed};
 
@@ -91,7 +91,7 @@ fn list_part(
     found
 }
 
-// Lists the maximal sets of the rows as they are found, and gives their number: at most 1,025.
+// Lists the maximal sets of the rows as they are found, and gives their count: at most one more than MAX_SETS.
 pub(crate) fn list_parts(
     neighbours: &[u64; MAX_UNION_ROWS],
     rows: u64,

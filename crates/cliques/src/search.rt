@@ -33,7 +33,8 @@ fn free_rows(neighbours: &[u64], set: u64, start: u64) -> u64
 
 // Is what the free rows give, each taken in ascending order where it complements those before it, of the set alone?
 fn grows_back(neighbours: &[u64], free: u64, set: u64) -> bool
-    requires { ⌜ Inside free (length (now neighbours)) × Inside free wordBits × Clique (adjacent (now neighbours)) set ⌝ }
+    requires { ⌜ Inside free (length (now neighbours)) × Inside free wordBits
+        × Clique (adjacent (now neighbours)) set ⌝ }
     ensures { λ r. ⌜ GrowsBack (adjacent (now (neighbours .entry))) free set r ⌝ }
 {
     let mut rest = free;
@@ -69,7 +70,7 @@ fn take_row(neighbours: &[u64], set: u64, i: usize) -> u64
 }
 
 // The set is maximal among the decided rows, and `undecided` rows, the rest, are to be decided. Takes the first of them or leaves it, and lists
-// each maximal set of all these rows that grows out of the set, as it finds them. Gives the grown count: it stays from the 1,025th set on.
+// each maximal set of all these rows that grows out of the set, as it finds them. Gives the grown count: it stays once there is one set more than MAX_SETS.
 pub(crate) fn search(
     neighbours: &[u64; MAX_UNION_ROWS],
     decided: u64,

@@ -1,4 +1,4 @@
--- The counts of filled cells, written row after row, and the rows with a larger count, number after number. Assumes nothing.
+-- The counts of filled cells, written row after row, and the rows with a larger count, count after count. Assumes nothing.
 use mathlib.Core.Path.{_≡_, refl, sym, _∙_, ap, subst}
 use mathlib.Core.Bool.{true}
 use mathlib.Core.Logic.{⊎-elim}
@@ -127,16 +127,16 @@ module _ (counts : List ℕ) where
       only = new-only;
     }
 
--- ---- the rows with a larger count, from the largest number down
+-- ---- the rows with a larger count, from the largest down
 
--- the words from number k on hold the rows with a larger count, those below it the rows with their own, and `fuller` those with count k or more
+-- the words from k on hold the rows with a larger count, those below it the rows with their own, and `fuller` those with count k or more
 pub record FullerFrom (counts found : List ℕ) (k fuller : ℕ) (words : List ℕ) : Type 0 where
   pub size : length words ≡ length found
   pub left : (i : ℕ) → i < k → getD words i 0 ≡ getD found i 0
   pub held : (i j : ℕ) → k ≤ i → j < length counts → i < getD counts j 0 → has (getD words i 0) j ≡ true
   pub only : (i j : ℕ) → k ≤ i → has (getD words i 0) j ≡ true → (j < length counts) × (i < getD counts j 0)
   pub above : (j : ℕ) → j < length counts → k ≤ getD counts j 0 → has fuller j ≡ true
-  pub above-only : (j : ℕ) → has fuller j ≡ true → (j < length counts) × (k ≤ getD counts j 0)
+  above-only : (j : ℕ) → has fuller j ≡ true → (j < length counts) × (k ≤ getD counts j 0)
 
 module _ (counts found : List ℕ) (small : (j : ℕ) → getD counts j 0 < length found) (equal : EqualTo counts (length counts) found) where
   past : (i j : ℕ) → length found ≤ i → has (getD found i 0) j ≡ true → ⊥
@@ -171,7 +171,7 @@ module _ (counts found : List ℕ) (small : (j : ℕ) → getD counts j 0 < leng
     other : (i : ℕ) → (i ≡ at → ⊥) → getD next i 0 ≡ getD words i 0
     other i d = getD-set-other words at i fuller 0 d
 
-    -- the number itself, or a larger one
+    -- the count itself, or a larger one
     from : {A : Type 0} (i : ℕ) → at ≤ i → (i ≡ at → A) → (k ≤ i → A) → A
     from i h f g = bool-cases (eqb i at) (λ e. f (eqb-true i at e)) (λ e. let d = eqb-false i at e in g (omega arith))
 

@@ -14,7 +14,7 @@ use Rattle.definitions.specs.MinimumUnion.{subsumes, tries}
 use Rattle.definitions.proofs.Bools.{bool-cases}
 use Rattle.definitions.proofs.Counts.{without-length}
 
--- ---- a list without what stands at place k
+-- ---- a list without what stands at index k
 
 module _ {A : Type 0} (d : A) (k : ℕ) (l : List A) (within : k < length l) where
   front-length : length (take k l) ≡ k

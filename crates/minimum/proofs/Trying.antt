@@ -22,10 +22,11 @@ use Rattle.definitions.proofs.Subsumption.{subsumes-is, subsumes-self}
 use Rattle.lists.proofs.Flat.{rows-length, rows-at, row-fits, part-row}
 use Rattle.bitsets.specs.Bits.{has, withoutLowest}
 use Rattle.bitsets.proofs.Bits.{Lowest, has-none, rest-in, rest-of}
+use Rattle.bitsets.proofs.Words.{in-word}
 use Rattle.patterns.proofs.FilledRows.{filled-has}
 use Rattle.minimum.specs.Trying.{TriedRow}
 use Rattle.minimum.specs.Candidates.{Candidates, Prepared}
-use Rattle.minimum.proofs.Counting.{counted-length, count-at}
+use Rattle.minimum.proofs.Counting.{count-at}
 use Rattle.minimum.proofs.Covering.{covers-next, covers-end}
 use Rattle.minimum.proofs.OtherRows.{Passed, others-all, others-before, others-after}
 
@@ -51,15 +52,15 @@ three-cases k j f g h =
 
 -- ---- the turns
 
-module _ {width n : ℕ} {w counts fuller columns : List ℕ} {k : ℕ} (own : k < n) (ready : Prepared width n w counts fuller columns) where
+module _ {width : ℕ} {w counts fuller columns : List ℕ} {k : ℕ} (own : k < length counts) (ready : Prepared width w counts fuller columns) where
+  abbrev n : ℕ
+  n = length counts
+
   abbrev rows : List (List ℕ)
   rows = rowsIn width n w
 
   abbrev at : ℕ → List ℕ
   at = row width n w
-
-  pub count-there : k < length counts
-  count-there = omega (arith, counted-length width n w counts (ready .counted))
 
   count-of : (j : ℕ) → getD counts j 0 ≡ filled (at j)
   count-of = count-at width n w counts (ready .counted)
@@ -108,8 +109,7 @@ module _ {width n : ℕ} {w counts fuller columns : List ℕ} {k : ℕ} (own : k
   pub left-all : (set at-k : ℕ) → at-k ≡ k * width
       → Candidates (take (at-k + width - at-k) (drop at-k w)) (getD fuller (getD counts k 0) 0) columns set → Left width n w k set
   left-all set at-k here told =
-      let few = ready .few in
-      let size = counted-length width n w counts (ready .counted) in
+      let few = in-word (ready .few) in
       let told-k : Candidates (at k) (getD fuller (getD counts k 0) 0) columns set =
       subst (λ (r : List ℕ). Candidates r (getD fuller (getD counts k 0) 0) columns set) (own-part at-k here) told in
       record {

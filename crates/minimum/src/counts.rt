@@ -1,4 +1,4 @@
-// The filled cells of each row, counted once and not for each pair, and for each number of filled cells the rows that have more.
+// The filled cells of each row, counted once and not for each pair, and for each count the rows that have more.
 ghost use mathlib.Core.Path.{_≡_};
 ghost use mathlib.Core.List.{map};
 ghost use Prim.Native.Nat.{ℕ, _*_, _≤_, _<_};
@@ -24,7 +24,7 @@ pub(crate) fn fill_counts(cells: &[u32], n: usize, width: usize, counts: &mut [u
     }
 }
 
-// Writes for each number the rows with this count, over words that hold no row.
+// Writes for each count the rows that have it, over words that hold no row.
 fn rows_by_count(counts: &[u32], words: &mut [u64])
     requires { ⌜ (length (now counts) ≤ wordBits) × ((j : ℕ) → getD (now counts) j 0 < length (now words)) ⌝ }
     requires { ⌜ ((k : ℕ) → getD (now words) k 0 ≡ 0) ⌝ }
@@ -38,8 +38,8 @@ fn rows_by_count(counts: &[u32], words: &mut [u64])
     }
 }
 
-// Writes for each number the rows with a larger count, over words that hold no row. The number falls, so that the rows with a count from
-// it on grow by those with this count.
+// Writes for each count the rows with a larger one, over words that hold no row. The count falls, so that the rows with a count from
+// it on grow by those that have it.
 pub(crate) fn fill_fuller(counts: &[u32], words: &mut [u64])
     requires { ⌜ (length (now counts) ≤ wordBits) × ((j : ℕ) → getD (now counts) j 0 < length (now words)) ⌝ }
     requires { ⌜ ((k : ℕ) → getD (now words) k 0 ≡ 0) ⌝ }

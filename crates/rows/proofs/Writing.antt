@@ -43,7 +43,7 @@ module _ (d w o : List ℕ) (at c m : ℕ) (fit : Fit c (length w) (take m o)) (
       (pasted-more d at rowWords (k * c) cur new (part c (x * c) w) c to (omega arith) (omega (arith, row-words-length)) p here (part-length c (x * c) w inside) row q)
 
   -- all words of the list afterwards
-  pub rows-written : paste d at rowWords (m * c) ≡ take at d ++ (rowWords ++ drop (at + m * c) d)
+  rows-written : paste d at rowWords (m * c) ≡ take at d ++ (rowWords ++ drop (at + m * c) d)
   rows-written =
       append-assoc (take at d) (take (m * c) rowWords) (drop (at + m * c) d)
       ∙ ap (λ (s : List ℕ). take at d ++ (s ++ drop (at + m * c) d)) (take-all (m * c) rowWords (omega (arith, row-words-length)))

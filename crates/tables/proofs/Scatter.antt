@@ -171,7 +171,7 @@ pub indices-ordered : (all ids : List ℕ) → distinct eqb all ≡ true → ind
 indices-ordered all ids differ =
     map-ext (λ id. smallerThan id all) (λ id. smallerThan id (ascending compareWord all)) ids (λ id s. sym (smaller-ascending id all differ))
 
--- ---- distinct ids, each written at the number of smaller ones, are ascending
+-- ---- distinct ids, each written at the count of smaller ones, are ascending
 
 own-cells : (f : ℕ → ℕ) (l : List ℕ) → ((x : ℕ) → Member x l → f x ≡ x) → map f l ≡ l
 own-cells f [] h = refl

@@ -41,7 +41,7 @@ widened-row : (union image : List ℕ) (i : ℕ) → getD (widenedRows union ima
 unfolding widenedRows
 widened-row union image i = List·getD-map (widened union (imageIds image)) (imageRows image) i []
 
--- the first i rows are written; the next one begins at `from`, and goes to `to`; k is the number of columns
+-- the first i rows are written; the next one begins at `from`, and goes to `to`; k is the count of columns
 pub record Widening (image union cells₀ : List ℕ) (at k i from to : ℕ) (cells : List ℕ) : Type 0 where
   pub accepted : imageNumber maxRows image ≡ 0
   pub columns : k ≡ columnCount image

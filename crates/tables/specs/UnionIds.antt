@@ -5,7 +5,6 @@ use mathlib.Core.List.{List, [], _∷_, _++_, map}
 use Prim.Native.Nat.{ℕ, _+_}
 use lib.Dec.{eqb, ltb}
 use lib.ListN.{length, set}
-use Rattle.definitions.specs.Limits.{maxColumns}
 use Rattle.definitions.specs.Lists.{any, filter, distinct}
 use Rattle.definitions.specs.Image.{imageIds}
 use Rattle.definitions.specs.Ascending.{ascending}

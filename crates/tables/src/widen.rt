@@ -1,19 +1,15 @@
 // The rows of an image, widened to the columns of a union.
 ghost use mathlib.Core.Path.{_≡_};
-ghost use mathlib.Core.Bool.{true};
-ghost use mathlib.Core.List.{map, flatten};
-ghost use Prim.Native.Nat.{ℕ, _+_, _*_, _≤_, _<_};
-ghost use lib.Dec.{eqb};
-ghost use lib.ListN.{length, getD};
+ghost use mathlib.Core.List.{map};
+ghost use Prim.Native.Nat.{ℕ, _+_, _≤_, _<_};
+ghost use lib.ListN.{length};
 ghost use lib.Seq.{paste};
-ghost use Rattle.definitions.specs.Limits.{maxColumns, maxRows, maxIds};
-ghost use Rattle.definitions.specs.Lists.{distinct};
+ghost use Rattle.definitions.specs.Limits.{maxColumns, maxIds};
 ghost use Rattle.definitions.specs.Word.{idOf};
-ghost use Rattle.definitions.specs.Image.{imageIds, rowCount};
-ghost use Rattle.definitions.specs.OuterUnion.{widenedRows};
+ghost use Rattle.definitions.specs.Image.{imageIds};
 ghost use Rattle.definitions.specs.Statements.{Member};
-ghost use Rattle.definitions.specs.Questions.{imageNumber};
-ghost use Rattle.tables.specs.UnionIds.{indicesIn, scattered, inOrder, Covers};
+ghost use Rattle.tables.specs.UnionIds.{indicesIn, scattered, inOrder};
+ghost use Rattle.tables.specs.Table.{Source, EmptyFor, Widened};
 use crate::Table;
 use crate::columns::smaller;
 
@@ -45,14 +41,10 @@ fn widen_row(row: &[u32], indices: &[usize], cells: &mut [u32], at: usize)
 
 // Writes the rows of an accepted image, each cell at its index, over the cells from at.
 fn widen_rows(image: &[u32], all: &[u32], indices: &[usize], cells: &mut [u32], at: usize)
-    requires { ⌜ (imageNumber maxRows (now image) ≡ 0) × (distinct eqb (now all) ≡ true)
-        × Covers (inOrder (now all)) (now image)
-        × (now indices ≡ indicesIn (inOrder (now all)) (imageIds (now image))) ⌝ }
-    requires { ⌜ (at + rowCount (now image) * length (inOrder (now all)) ≤ length (now cells))
-        × ((k : ℕ) → at ≤ k → getD (now cells) k 0 ≡ 0) ⌝ }
-    ensures { λ r. ⌜ now (cells .exit) ≡ paste (now (cells .entry)) at
-        (flatten (widenedRows (inOrder (now (all .entry))) (now (image .entry))))
-        (rowCount (now (image .entry)) * length (inOrder (now (all .entry)))) ⌝ }
+    requires { ⌜ Source (now image) (now all)
+        × (now indices ≡ indicesIn (inOrder (now all)) (imageIds (now image)))
+        × EmptyFor (now image) (now all) (now cells) at ⌝ }
+    ensures { λ r. ⌜ Widened (now (image .entry)) (now (all .entry)) (now (cells .entry)) at (now (cells .exit)) ⌝ }
 {
     let header = image[0];
     let columns = words::columns(header) as usize;
@@ -72,14 +64,9 @@ fn widen_rows(image: &[u32], all: &[u32], indices: &[usize], cells: &mut [u32], 
 
 // Writes the rows of an accepted image, widened to columns with these ids in order, over the empty cells from at.
 pub(crate) fn widen_table(image: &[u32], all: &[u32], cells: &mut [u32], at: usize)
-    requires { ⌜ (imageNumber maxRows (now image) ≡ 0) × (distinct eqb (now all) ≡ true)
-        × Covers (inOrder (now all)) (now image)
-        × (length (now all) ≤ maxColumns) ⌝ }
-    requires { ⌜ (at + rowCount (now image) * length (inOrder (now all)) ≤ length (now cells))
-        × ((k : ℕ) → at ≤ k → getD (now cells) k 0 ≡ 0) ⌝ }
-    ensures { λ r. ⌜ now (cells .exit) ≡ paste (now (cells .entry)) at
-        (flatten (widenedRows (inOrder (now (all .entry))) (now (image .entry))))
-        (rowCount (now (image .entry)) * length (inOrder (now (all .entry)))) ⌝ }
+    requires { ⌜ Source (now image) (now all) × (length (now all) ≤ maxColumns)
+        × EmptyFor (now image) (now all) (now cells) at ⌝ }
+    ensures { λ r. ⌜ Widened (now (image .entry)) (now (all .entry)) (now (cells .entry)) at (now (cells .exit)) ⌝ }
 {
     let mut indices = [0usize; Table::MAX_COLUMNS];
     let columns = words::columns(image[0]) as usize;

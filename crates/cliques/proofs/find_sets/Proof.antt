@@ -74,14 +74,4 @@ returns-3 c =
     )
 
 pub find-sets-spec : {M : Type 1} → statement M
-find-sets-spec =
-    tie.close
-    (tie.spec
-    returns
-    sub-last
-    below-requires
-    with-row-requires
-    list-parts-requires
-    returns-2
-    order-sets-requires
-    returns-3)
+find-sets-spec = tie.close (tie.spec returns sub-last below-requires with-row-requires list-parts-requires returns-2 order-sets-requires returns-3)

@@ -71,12 +71,4 @@ returns c =
     )
 
 pub list-part-spec : {M : Type 1} → statement M
-list-part-spec =
-    tie.close
-    (tie.spec
-    common-rows-requires
-    minus-requires
-    size-requires
-    search-requires
-    add-rows-requires
-    returns)
+list-part-spec = tie.close (tie.spec common-rows-requires minus-requires size-requires search-requires add-rows-requires returns)

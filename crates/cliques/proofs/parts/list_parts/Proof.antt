@@ -86,16 +86,4 @@ returns-2 c =
     )
 
 pub list-parts-spec : {M : Type 1} → statement M
-list-parts-spec =
-    tie.close
-    (tie.spec
-    Inv-loop
-    μ-loop
-    loop-holds
-    returns
-    part-of-requires
-    list-part-requires
-    minus-requires
-    loop-less
-    loop-again
-    returns-2)
+list-parts-spec = tie.close (tie.spec Inv-loop μ-loop loop-holds returns part-of-requires list-part-requires minus-requires loop-less loop-again returns-2)

@@ -1,6 +1,5 @@
 -- `free_rows` keeps the rows that complement each row of the set. The invariant: what is free for the rows that are left, of the rows kept, is
 -- what is free for all, of those given.
-use mathlib.Core.Path.{_≡_}
 use Prim.Native.Nat.{ℕ}
 use native.Mathlib.Omega.{arith}
 use lib.ListN.{length}
@@ -69,14 +68,5 @@ pub free-rows-spec : {M : Type 1} → statement M
 free-rows-spec =
     tie.close
     (tie.spec
-    Inv-loop
-    μ-loop
-    loop-holds
-    lowest-row-requires
-    mul-meet
-    shared-slice-read-meet
-    meet-requires
-    without-lowest-requires
-    loop-less
-    loop-again
+    Inv-loop μ-loop loop-holds lowest-row-requires mul-meet shared-slice-read-meet meet-requires without-lowest-requires loop-less loop-again
     returns)

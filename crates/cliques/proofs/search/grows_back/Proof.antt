@@ -88,16 +88,5 @@ pub grows-back-spec : {M : Type 1} → statement M
 grows-back-spec =
     tie.close
     (tie.spec
-    Inv-loop
-    μ-loop
-    loop-holds
-    lowest-row-requires
-    has-row-requires
-    returns
-    without-lowest-requires
-    mul-meet
-    shared-slice-read-meet
-    meet-requires
-    loop-less
-    loop-again
-    returns-2)
+    Inv-loop μ-loop loop-holds lowest-row-requires has-row-requires returns without-lowest-requires mul-meet shared-slice-read-meet meet-requires
+    loop-less loop-again returns-2)

@@ -77,21 +77,5 @@ pub is-mirrored-spec : {M : Type 1} → statement M
 is-mirrored-spec =
     tie.close
     (tie.spec
-    Inv-loop
-    μ-loop
-    mul-has-row
-    shared-slice-read-has-row
-    has-row-requires
-    returns
-    loop-holds
-    mul-has-row-2
-    shared-slice-read-has-row-2
-    has-row-requires-2
-    mul-has-row-3
-    shared-slice-read-has-row-3
-    has-row-requires-3
-    returns-2
-    add-k
-    loop-less
-    loop-again
-    returns-3)
+    Inv-loop μ-loop mul-has-row shared-slice-read-has-row has-row-requires returns loop-holds mul-has-row-2 shared-slice-read-has-row-2
+    has-row-requires-2 mul-has-row-3 shared-slice-read-has-row-3 has-row-requires-3 returns-2 add-k loop-less loop-again returns-3)

@@ -36,16 +36,4 @@ returns : tie.Need-returns Inv-loop μ-loop
 returns c = search needs
 
 pub set-spec : {M : Type 1} → statement M
-set-spec =
-    tie.close
-    (tie.spec
-    Inv-loop
-    μ-loop
-    loop-holds
-    has-row-requires
-    position-requires
-    add-k
-    loop-less
-    loop-again
-    end-line-requires
-    returns)
+set-spec = tie.close (tie.spec Inv-loop μ-loop loop-holds has-row-requires position-requires add-k loop-less loop-again end-line-requires returns)

@@ -85,19 +85,5 @@ pub rows-by-count-spec : {M : Type 1} → statement M
 rows-by-count-spec =
     tie.close
     (tie.spec
-    Inv-loop
-    μ-loop
-    loop-holds
-    mul-k
-    shared-slice-read-k
-    cast-k
-    mul-words
-    slice-read-words
-    shl-words
-    mul-words-2
-    slice-write-words
-    add-j
-    loop-less
-    loop-again
-    same-length
-    returns)
+    Inv-loop μ-loop loop-holds mul-k shared-slice-read-k cast-k mul-words slice-read-words shl-words mul-words-2 slice-write-words add-j loop-less
+    loop-again same-length returns)

@@ -72,20 +72,5 @@ pub add-row-spec : {M : Type 1} → statement M
 add-row-spec =
     tie.close
     (tie.spec
-    Inv-loop
-    μ-loop
-    loop-holds
-    mul-bit
-    shared-slice-read-bit
-    bit-requires
-    cast-held
-    mul-columns
-    slice-read-columns
-    shl-columns
-    mul-columns-2
-    slice-write-columns
-    add-c
-    loop-less
-    loop-again
-    same-length
-    returns)
+    Inv-loop μ-loop loop-holds mul-bit shared-slice-read-bit bit-requires cast-held mul-columns slice-read-columns shl-columns mul-columns-2
+    slice-write-columns add-c loop-less loop-again same-length returns)

@@ -97,17 +97,5 @@ pub fill-columns-spec : {M : Type 1} → statement M
 fill-columns-spec =
     tie.close
     (tie.spec
-    Inv-loop
-    μ-loop
-    loop-holds
-    add-next
-    mul-add-row
-    sub-add-row
-    part-add-row-start
-    part-add-row-end
-    add-row-requires
-    add-j
-    loop-less
-    loop-again
-    same-length
-    returns)
+    Inv-loop μ-loop loop-holds add-next mul-add-row sub-add-row part-add-row-start part-add-row-end add-row-requires add-j loop-less loop-again
+    same-length returns)

@@ -99,21 +99,5 @@ pub find-row-spec : {M : Type 1} → statement M
 find-row-spec =
     tie.close
     (tie.spec
-    Inv-loop
-    μ-loop
-    loop-holds
-    sub-mid
-    add-mid
-    mul-compare-with
-    shared-slice-read-compare-with
-    compare-with-requires
-    enum-told
-    loop-less
-    loop-again
-    enum-told-2
-    returns
-    enum-told-3
-    add-lo
-    loop-less-2
-    loop-again-2
-    returns-2)
+    Inv-loop μ-loop loop-holds sub-mid add-mid mul-compare-with shared-slice-read-compare-with compare-with-requires enum-told loop-less loop-again
+    enum-told-2 returns enum-told-3 add-lo loop-less-2 loop-again-2 returns-2)

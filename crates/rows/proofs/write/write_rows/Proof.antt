@@ -119,22 +119,5 @@ pub write-rows-spec : {M : Type 1} → statement M
 write-rows-spec =
     tie.close
     (tie.spec
-    Inv-loop
-    μ-loop
-    loop-holds
-    mul-wide
-    shared-slice-read-wide
-    wide-requires
-    mul-from
-    add-end
-    mul-write-words
-    sub-write-words
-    part-write-words-start
-    part-write-words-end
-    write-words-requires
-    add-to
-    add-k
-    loop-less
-    loop-again
-    same-length
-    returns)
+    Inv-loop μ-loop loop-holds mul-wide shared-slice-read-wide wide-requires mul-from add-end mul-write-words sub-write-words part-write-words-start
+    part-write-words-end write-words-requires add-to add-k loop-less loop-again same-length returns)

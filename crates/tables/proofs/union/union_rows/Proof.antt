@@ -23,7 +23,7 @@ order-cells-requires c κs =
     let s = c .before .before .before .before .before .before .before in
     let w = c .before .before .widen-both .ensures in
     let f = few-words (c .before .before .widen-both .result) maxUnionRows (length (s .args .all .now)) (w .few-rows) (s .pre .few) in
-    (s .pre .few, w .few-rows, omega (arith, f, w .cell-words), search needs)
+    record { few-columns = s .pre .few; few-rows = w .few-rows; fits = omega (arith, f, w .cell-words); room = search needs }
 
 returns : tie.Need-returns
 unfolding unionRows

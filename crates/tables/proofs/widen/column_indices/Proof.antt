@@ -6,7 +6,7 @@ use native.Mathlib.Nat.{zero-add}
 use native.Mathlib.Omega.{arith}
 use lib.ListN.{length, length-map, List·getD-map}
 use Rattle.definitions.specs.Word.{idOf}
-use Rattle.lists.proofs.Pastes.{Pasted, paste-none, paste-turn, paste-all}
+use Rattle.lists.proofs.Pastes.{Pasted, paste-none, map-turn, paste-all}
 use Rattle.tables.specs.UnionIds.{smallerThan, indicesIn}
 use borrow.Author.Needs.{needs}
 use Rattle.tables.proofs.widen.column_indices.Statement.{statement}
@@ -51,13 +51,10 @@ loop-again c =
     let a = c .before .before .before .before .before .before .before .before .args in
     let ids = map idOf (a .columns .now) in
     let f : ℕ → ℕ = λ id. smallerThan id (a .union .now) in
-    let e = length-map (a .columns .now) idOf in
-    let n = length-map ids f in
-    let x = List·getD-map f ids (l .j) (idOf 0) ∙ ap f (List·getD-map idOf (a .columns .now) (l .j) 0) in (
+    let n = length-map (a .columns .now) idOf in (
       search needs,
-      paste-turn (a .indices .now) 0 (indicesIn (a .union .now) ids) (l .j) _ (l .indices) (f (idOf 0)) _ (l .inv .1)
-          (sym (zero-add (l .j))) (omega arith) (omega arith)
-          (c .smaller .ensures ∙ ap f (c .before .id .ensures) ∙ sym x),
+      map-turn f (a .indices .now) 0 ids (omega arith) (l .j) _ (l .indices) (idOf 0) _ (l .inv .1) (sym (zero-add (l .j))) (omega arith)
+          (c .smaller .ensures ∙ ap f (c .before .id .ensures ∙ sym (List·getD-map idOf (a .columns .now) (l .j) 0))),
     )
 
 same-length : tie.Need-same-length Inv-loop μ-loop
@@ -73,17 +70,5 @@ pub column-indices-spec : {M : Type 1} → statement M
 column-indices-spec =
     tie.close
     (tie.spec
-    Inv-loop
-    μ-loop
-    loop-holds
-    mul-id
-    shared-slice-read-id
-    id-requires
-    smaller-requires
-    mul-indices
-    slice-write-indices
-    add-j
-    loop-less
-    loop-again
-    same-length
-    returns)
+    Inv-loop μ-loop loop-holds mul-id shared-slice-read-id id-requires smaller-requires mul-indices slice-write-indices add-j loop-less loop-again
+    same-length returns)

@@ -81,18 +81,5 @@ pub widen-row-spec : {M : Type 1} → statement M
 widen-row-spec =
     tie.close
     (tie.spec
-    Inv-loop
-    μ-loop
-    loop-holds
-    mul-cells
-    shared-slice-read-cells
-    mul-cells-2
-    shared-slice-read-cells-2
-    add-cells
-    mul-cells-3
-    slice-write-cells
-    add-j
-    loop-less
-    loop-again
-    same-length
-    returns)
+    Inv-loop μ-loop loop-holds mul-cells shared-slice-read-cells mul-cells-2 shared-slice-read-cells-2 add-cells mul-cells-3 slice-write-cells add-j
+    loop-less loop-again same-length returns)

@@ -15,7 +15,7 @@ use Rattle.tables.proofs.widen.widen_table.Tie as tie
 
 shared-slice-read-columns : tie.Need-shared-slice-read-columns
 shared-slice-read-columns c =
-    let s = c .before .before .before .before in passed-is maxRows (s .args .image .now) .0 (s .pre .0 .0) .first-word
+    let s = c .before .before .before .before in passed-is maxRows (s .args .image .now) .0 (s .pre .0 .accepted) .first-word
 
 columns-requires : tie.Need-columns-requires
 columns-requires c κs = search needs
@@ -35,7 +35,7 @@ part-column-indices-start c = search needs
 part-column-indices-end : tie.Need-part-column-indices-end
 part-column-indices-end c =
     let s = c .before .before .before .before .before in
-    let a = passed-is maxRows (s .args .image .now) .0 (s .pre .0 .0) in
+    let a = passed-is maxRows (s .args .image .now) .0 (s .pre .0 .accepted) in
     let z = a .all-words in
     let e = c .columns .ensures in
     search needs
@@ -46,33 +46,33 @@ slice-aggregate-column-indices c = search needs
 column-indices-requires : tie.Need-column-indices-requires
 column-indices-requires c κs =
     let s = c .before .before .before .before .before .before .before in
-    let u = columns-of (s .args .image .now) _ (s .pre .0 .0) (c .before .before .columns .ensures) in
+    let u = columns-of (s .args .image .now) _ (s .pre .0 .accepted) (c .before .before .columns .ensures) in
     let z = u .size in
     let f = u .few in
-    (omega arith, omega (arith, s .pre .0 .3))
+    (omega arith, omega (arith, s .pre .1))
 
 array-share-prefix-indices : tie.Need-array-share-prefix-indices
 array-share-prefix-indices c =
     let s = c .before .before .before .before .before .before .before .before .before in
-    let u = columns-of (s .args .image .now) _ (s .pre .0 .0) (c .before .before .before .before .columns .ensures) in
+    let u = columns-of (s .args .image .now) _ (s .pre .0 .accepted) (c .before .before .before .before .columns .ensures) in
     let f = u .few in
     search needs
 
 slice-aggregate-widen-rows : tie.Need-slice-aggregate-widen-rows
 slice-aggregate-widen-rows c =
     let s = c .before .before .before .before .before .before .before .before .before .before in
-    let u = columns-of (s .args .image .now) _ (s .pre .0 .0) (c .before .before .before .before .before .columns .ensures) in
+    let u = columns-of (s .args .image .now) _ (s .pre .0 .accepted) (c .before .before .before .before .before .columns .ensures) in
     let f = u .few in
     sym (length-take-le _ (c .before .before .column-indices .last .1 .1 .0) (search needs))
 
 widen-rows-requires : tie.Need-widen-rows-requires
 widen-rows-requires c κs =
     let s = c .before .before .before .before .before .before .before .before .before .before .before in
-    let u = columns-of (s .args .image .now) _ (s .pre .0 .0) (c .before .before .before .before .before .before .columns .ensures) in
+    let u = columns-of (s .args .image .now) _ (s .pre .0 .accepted) (c .before .before .before .before .before .before .columns .ensures) in
     let all = s .args .all .now in
     let image = s .args .image .now in
     let indices = indices-written all image _ (replicate maxColumns 0) _ _ u (c .before .before .before .column-indices .ensures) in
-    ((s .pre .0 .0, s .pre .0 .1, s .pre .0 .2, indices ∙ indices-ordered all (imageIds image) (s .pre .0 .1)), s .pre .1)
+    (s .pre .0, indices ∙ indices-ordered all (imageIds image) (s .pre .0 .differ), s .pre .2)
 
 same-length : tie.Need-same-length
 same-length c = search needs
@@ -84,17 +84,6 @@ pub widen-table-spec : {M : Type 1} → statement M
 widen-table-spec =
     tie.close
     (tie.spec
-    shared-slice-read-columns
-    columns-requires
-    cast-columns
-    add-end
-    sub-column-indices
-    part-column-indices-start
-    part-column-indices-end
-    slice-aggregate-column-indices
-    column-indices-requires
-    array-share-prefix-indices
-    slice-aggregate-widen-rows
-    widen-rows-requires
-    same-length
+    shared-slice-read-columns columns-requires cast-columns add-end sub-column-indices part-column-indices-start part-column-indices-end
+    slice-aggregate-column-indices column-indices-requires array-share-prefix-indices slice-aggregate-widen-rows widen-rows-requires same-length
     returns)
