@@ -27,16 +27,16 @@ use Rattle.cliques.proofs.Sublists.{ascending-once, no-longer}
 use Rattle.cliques.proofs.Maximal.{Simple}
 use Rattle.cliques.proofs.Adds.{adds-same}
 use Rattle.cliques.proofs.Listed.{listed, listed-rises, listed-max, max-listed}
-use Rattle.cliques.proofs.ByParts.{Filled, parts-adds}
+use Rattle.cliques.proofs.ByParts.{NonEmpty, parts-adds}
 use Rattle.cliques.proofs.Turns.{simple}
 
 -- the list has the definition's sets, or `cap` of them
-pub record Counted (adjacent : ℕ → ℕ → Bool) (n cap : ℕ) (l : List ℕ) : Type 0 where
+pub record CountedSets (adjacent : ℕ → ℕ → Bool) (n cap : ℕ) (l : List ℕ) : Type 0 where
   pub count : length l ≡ min cap (length (listed adjacent n))
   pub sets : length l < cap → ascending compareBits l ≡ listed adjacent n
 
 pub counted : (adjacent : ℕ → ℕ → Bool) (n : ℕ) → Simple adjacent n → (cap : ℕ) (l : List ℕ) → 0 < n → length l ≤ cap → Adds (Max adjacent (rowsBelow n)) cap [] l
-    → Counted adjacent n cap l
+    → CountedSets adjacent n cap l
 counted adjacent n g cap l pos full m =
     let all = listed adjacent n in
     let own = ascending compareBits l in
@@ -87,12 +87,12 @@ module _ (neighbours : List ℕ) (n : ℕ) (g : Graph neighbours n) where
 
     adds : Adds (Max (adjacent neighbours) (rowsBelow n)) (suc maxSets) [] (take found list)
     adds =
-        adds-same (suc maxSets) (Filled (rowOf neighbours) n (simple neighbours n g) all) (Max (adjacent neighbours) (rowsBelow n))
+        adds-same (suc maxSets) (NonEmpty (rowOf neighbours) n (simple neighbours n g) all) (Max (adjacent neighbours) (rowsBelow n))
         (λ x p. rw ea at (p .0))
         (λ x m. (rw ea m, filled x m))
         (parts-adds (rowOf neighbours) n (simple neighbours n g) (suc maxSets) width bits-fit (l .1) (λ k h. below-of n k (rw ea at h)))
 
-    result : Counted (adjacent neighbours) n (suc maxSets) (take found list)
+    result : CountedSets (adjacent neighbours) n (suc maxSets) (take found list)
     result = counted (adjacent neighbours) n (simple neighbours n g) (suc maxSets) (take found list) pos (omega (arith, held)) adds
 
     pub sets-counted : found ≡ min (suc maxSets) (length (maximalSets (adjacent neighbours) n))

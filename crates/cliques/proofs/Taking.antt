@@ -13,7 +13,7 @@ use Rattle.bitsets.specs.Bits.{has, both, lowest, withoutLowest, Inside, Sub}
 use Rattle.bitsets.proofs.Bits.{In, Lowest, some, has-none, both-in, both-l, both-r, at-lowest, rest-in, rest-of}
 use Rattle.cliques.specs.Graph.{adjacent}
 use Rattle.cliques.specs.Maximal.{AdjacentToAll, Clique}
-use Rattle.cliques.specs.Search.{rowOf, adjacentBy, kept, MayTake, Asked, FreeRows, GrowsBack, Told}
+use Rattle.cliques.specs.Search.{rowOf, adjacentBy, kept, MayTake, Asked, FreeRows, GrowsBack, Decides}
 
 -- ---- the rows that complement each row of a set, row by row
 
@@ -136,7 +136,7 @@ module _ {width : ℕ} {neighbours : List ℕ} {decided set i : ℕ} (a : Asked 
     free-bits k h = omega (arith, a .past k (f .within k h), a .bits)
 
     -- a free row complements row i
-    pub told-blocked : (r : ℕ) → r ≡ both free (N i) → (r ≡ 0 → ⊥) → Told (MayTake N decided set i) false
+    pub told-blocked : (r : ℕ) → r ≡ both free (N i) → (r ≡ 0 → ⊥) → Decides (MayTake N decided set i) false
     told-blocked r er ne = record {
       yes = λ z. absurd (clash z refl);
       no = λ _ m.
@@ -146,7 +146,7 @@ module _ {width : ℕ} {neighbours : List ℕ} {decided set i : ℕ} (a : Asked 
           m .maximal (k .0) (f .within (k .0) there) (free-adjacent (k .0) there) (both-r free (N i) (k .0) p);
     }
 
-    pub told-walked : (r : ℕ) → r ≡ both free (N i) → r ≡ 0 → (b : Bool) → GrowsBack (adjacent neighbours) free set b → Told (MayTake N decided set i) b
+    pub told-walked : (r : ℕ) → r ≡ both free (N i) → r ≡ 0 → (b : Bool) → GrowsBack (adjacent neighbours) free set b → Decides (MayTake N decided set i) b
     told-walked r er z b back = record {
       yes = λ t. record {
         maximal = λ j h adjacent p. clash (both-in free (N i) j (adjacent-free j h adjacent) p) (ap (λ (x : ℕ). has x j) (sym er ∙ z) ∙ has-none j);

@@ -110,6 +110,6 @@ pub record GrowsBack (adjacent : ℕ → ℕ → Bool) (free set : ℕ) (r : Boo
   pub no : r ≡ false → Met adjacent free set
 
 -- a test says yes where P holds, and no where it does not
-pub record Told (P : Type 0) (r : Bool) : Type 0 where
+pub record Decides (P : Type 0) (r : Bool) : Type 0 where
   pub yes : r ≡ true → P
   pub no : r ≡ false → P → ⊥

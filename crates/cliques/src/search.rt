@@ -15,7 +15,7 @@ ghost use Rattle.definitions.specs.Limits.{maxSets};
 ghost use Rattle.bitsets.specs.Bits.{Inside, wordBits};
 ghost use Rattle.cliques.specs.Graph.{adjacent};
 ghost use Rattle.cliques.specs.Maximal.{Clique};
-ghost use Rattle.cliques.specs.Search.{rowOf, taken, MayTake, Ran, Ready, Asked, FreeRows, GrowsBack, Told};
+ghost use Rattle.cliques.specs.Search.{rowOf, taken, MayTake, Ran, Ready, Asked, FreeRows, GrowsBack, Decides};
 
 // The rows of `start` that complement each row of the set.
 fn free_rows(neighbours: &[u64], set: u64, start: u64) -> u64
@@ -51,7 +51,7 @@ fn grows_back(neighbours: &[u64], free: u64, set: u64) -> bool
 // May row i be taken? What that makes has to be maximal, and the set the first of those that it comes from.
 fn may_take(neighbours: &[u64], decided: u64, set: u64, i: usize) -> bool
     requires { ⌜ Asked wordBits (now neighbours) decided set i ⌝ }
-    ensures { λ r. ⌜ Told (MayTake (rowOf (now (neighbours .entry))) decided set i) r ⌝ }
+    ensures { λ r. ⌜ Decides (MayTake (rowOf (now (neighbours .entry))) decided set i) r ⌝ }
 {
     let adjacent = neighbours[i];
     let free = free_rows(neighbours, meet(set, adjacent), decided);

@@ -28,7 +28,7 @@ use Rattle.minimum.specs.Trying.{TriedRow}
 use Rattle.minimum.specs.Candidates.{Candidates, Prepared}
 use Rattle.minimum.proofs.Counting.{count-at}
 use Rattle.minimum.proofs.Covering.{covers-next, covers-end}
-use Rattle.minimum.proofs.OtherRows.{Passed, others-all, others-before, others-after}
+use Rattle.minimum.proofs.OtherRows.{NoneBefore, others-all, others-before, others-after}
 
 -- ---- how far the trying of row k has come
 
@@ -42,7 +42,7 @@ module _ (width n : ℕ) (w : List ℕ) (k : ℕ) where
   CoveredTo j c = covers (row width n w j) (row width n w k) ≡ covers (drop c (row width n w j)) (drop c (row width n w k))
 
   -- the rest of the candidates: fuller rows, and all that subsume row k are among them
-  pub record Left (rest : ℕ) : Type 0 where
+  pub record Remaining (rest : ℕ) : Type 0 where
     pub fuller : (i : ℕ) → has rest i ≡ true → (i < n) × (filled (row width n w k) < filled (row width n w i))
     pub all : (i : ℕ) → i < n → subsumes (row width n w i) (row width n w k) ≡ true → has rest i ≡ true
 
@@ -107,7 +107,7 @@ module _ {width : ℕ} {w counts fuller columns : List ℕ} {k : ℕ} (own : k <
 
   -- at first all candidates are left
   pub left-all : (set at-k : ℕ) → at-k ≡ k * width
-      → Candidates (take (at-k + width - at-k) (drop at-k w)) (getD fuller (getD counts k 0) 0) columns set → Left width n w k set
+      → Candidates (take (at-k + width - at-k) (drop at-k w)) (getD fuller (getD counts k 0) 0) columns set → Remaining width n w k set
   left-all set at-k here told =
       let few = in-word (ready .few) in
       let told-k : Candidates (at k) (getD fuller (getD counts k 0) 0) columns set =
@@ -131,11 +131,11 @@ module _ {width : ℕ} {w counts fuller columns : List ℕ} {k : ℕ} (own : k <
       }
 
   -- the lowest of the rest is tried
-  module _ {rest j : ℕ} (left : Left width n w k rest) (low : Lowest rest j) where
+  module _ {rest j : ℕ} (left : Remaining width n w k rest) (low : Lowest rest j) where
     pub next-within : j < n
     next-within = left .fuller j (low .there) .0
 
-    pub left-next : covers (at j) (at k) ≡ false → Left width n w k (bitAnd rest (rest - 1))
+    pub left-next : covers (at j) (at k) ≡ false → Remaining width n w k (bitAnd rest (rest - 1))
     unfolding withoutLowest
     left-next f = record {
       fuller = λ i h. left .fuller i (rest-in rest i h);
@@ -146,7 +146,7 @@ module _ {width : ℕ} {w counts fuller columns : List ℕ} {k : ℕ} (own : k <
 
   -- ---- the trying has ended when so many rows had been looked at, row k itself among them or not
 
-  module _ {rest : ℕ} (left : Left width n w k rest) {subsumed : Bool} {looked pairs : ℕ}
+  module _ {rest : ℕ} (left : Remaining width n w k rest) {subsumed : Bool} {looked pairs : ℕ}
       (e : pairs ≡ cond (ltb k looked) (looked - 1) looked) where
     -- no candidate is left
     pub tried-none : rest ≡ 0 → subsumed ≡ false → looked ≡ n → TriedRow rows k subsumed pairs
@@ -169,7 +169,7 @@ module _ {width : ℕ} {w counts fuller columns : List ℕ} {k : ℕ} (own : k <
         let l = rows-length width n w in
         let more = left .fuller j (low .there) in
         let h = more .0 in
-        let p : Passed (at k) rows j =
+        let p : NoneBefore (at k) rows j =
         λ i g. not-so (subsumes (at i) (at k)) (λ q. clash (left .all i (omega arith) q) (low .below i g)) in
         let u : subsumes (at j) (at k) ≡ true = subsumes-is (at j) (at k) .1 (more .1, f) in
         record {

@@ -31,7 +31,7 @@ fn others(first: usize, k: usize) -> usize
 }
 
 // Whether some row subsumes row k, and how many pairs are tried for it.
-pub struct Tried {
+pub(crate) struct Tried {
     pub subsumed: bool,
     pub pairs: usize,
 }

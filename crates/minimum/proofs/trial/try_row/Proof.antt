@@ -11,7 +11,7 @@ use lib.Bits.{and-le-r}
 use lib.Count.{trailingZeros, trailing-le}
 use lib.ListN.{length, getD}
 use Rattle.bitsets.proofs.Bits.{Lowest, trailing-lowest}
-use Rattle.minimum.proofs.Trying.{CoveredTo, Left, row-end, own-short, column-covered, column-differs, columns-covered}
+use Rattle.minimum.proofs.Trying.{CoveredTo, Remaining, row-end, own-short, column-covered, column-differs, columns-covered}
 use Rattle.minimum.proofs.Trying.{left-all, next-within, left-next, tried-none, tried-found}
 use Rattle.minimum.proofs.trial.try_row.Statement.{statement}
 use Rattle.minimum.proofs.trial.try_row.Tie as tie
@@ -26,7 +26,7 @@ abbrev μ-loop : tie.MeasureT-loop
 
 abbrev Inv-rows : tie.InvT-rows
 Inv-rows cells counts fuller columns width k own own-end count rest₀ subsumed₀ looked₀ rest subsumed looked =
-    (rest < 2 ^ wordBits) × (subsumed ≡ false) × (looked ≡ length counts) × Left width (length counts) cells k rest
+    (rest < 2 ^ wordBits) × (subsumed ≡ false) × (looked ≡ length counts) × Remaining width (length counts) cells k rest
 
 abbrev μ-rows : tie.MeasureT-rows
 μ-rows cells counts fuller columns width k own own-end count rest₀ subsumed₀ looked₀ rest subsumed looked = rest
