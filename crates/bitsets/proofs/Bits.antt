@@ -1,16 +1,16 @@
--- The positions of sets that are numbers: of an intersection, of a set with one more, of a list of marks; those below a bound; the lowest,
+-- The positions of sets that are numbers: of an intersection, of a set with one more, of a list of bits; those below a bound; the lowest,
 -- and the others. Two numbers with the same positions are equal. Assumes nothing.
 use mathlib.Core.Path.{_≡_, refl, sym, ap, ap₂, _∙_, subst}
 use mathlib.Core.Bool.{Bool, true, false, cond, not, _&&_, _||_, Bool·beq}
 use mathlib.Core.Logic.{⊎-elim}
 use mathlib.Core.List.{List}
-use Prim.Native.Nat.{ℕ, zero, suc, _+_, _-_, _*_, _/_, _%_, _^_, _≤_, _<_}
+use Prim.Native.Nat.{ℕ, zero, suc, _-_, _*_, _/_, _%_, _^_, _≤_, _<_}
 use native.Mathlib.Nat.{mod-lt, zero-lt-suc, not-suc-le-zero, le-of-suc-le-suc, div-one, div-div-eq-div-mul, pow-succ', zero-div, div-eq-of-lt, lt-of-lt-of-le, one-mul}
 use native.Mathlib.Omega.{arith}
 use lib.Arith.{bin-ind}
 use lib.Bits.{bitAnd, bitOr, bitXor, and-shr, or-shr, xor-shr, and-mod, or-mod, xor-mod, and-le-l, and-le-r}
 use lib.Count.{trailingZeros, under}
-use lib.Pow.{pow-mono, pow-pos, ones-lt, shr-shr, shl-exact}
+use lib.Pow.{pow-mono, pow-pos, ones-lt, shl-exact}
 use lib.Dec.{eqb, ltb, lit<, eqb·suc-suc, eqb·zero-suc, eqb·suc-zero}
 use borrow.Author.Tests.{eqb-true, eqb-false, eq-eqb, ltb-true, ltb-false}
 use Rattle.definitions.specs.ComplementUnion.{contains}
@@ -23,7 +23,7 @@ use Rattle.bitsets.specs.Bits.{has, both, either, isSub, butNot, withRow
 abbrev pub In : ℕ → ℕ → Type 0
 In set k = has set k ≡ true
 
--- a one shifted to a place of a word
+-- a one shifted to a bit of a word
 pub bit-at : (width k : ℕ) → k < width → (1 * 2 ^ k) % 2 ^ width ≡ 2 ^ k
 bit-at width k h = shl-exact 1 k width (lit< tt) (omega arith) ∙ one-mul (2 ^ k)
 
@@ -100,10 +100,6 @@ has-low w = ap (λ (x : ℕ). eqb (x % 2) 1) (div-one w)
 pub has-suc : (w k : ℕ) → has w (suc k) ≡ has (w / 2) k
 unfolding has
 has-suc w k = ap (λ (x : ℕ). eqb (x % 2) 1) (ap (λ (x : ℕ). w / x) (pow-succ' 2 k) ∙ sym (div-div-eq-div-mul w 2 (2 ^ k)))
-
-pub has-shift : (w i k : ℕ) → has w (i + k) ≡ has (w / 2 ^ i) k
-unfolding has
-has-shift w i k = ap (λ (x : ℕ). eqb (x % 2) 1) (sym (shr-shr w i k))
 
 pub has-none : (k : ℕ) → has 0 k ≡ false
 unfolding has
@@ -210,15 +206,15 @@ pub sub-of : (a b : ℕ) → ((k : ℕ) → In a k → In b k) → isSub a b ≡
 unfolding isSub
 sub-of a b f = eq-eqb (both a b) a (same-set (both a b) a (both-l a b) (λ k p. both-in a b k p (f k p)))
 
--- ---- a list of marks
+-- ---- a list of bits
 
-mark-eqb : (m : Bool) → eqb (cond m 1 0) 1 ≡ m
-mark-eqb true = refl
-mark-eqb false = refl
+bit-eqb : (m : Bool) → eqb (cond m 1 0) 1 ≡ m
+bit-eqb true = refl
+bit-eqb false = refl
 
 pub has-bits : (s : List Bool) (k : ℕ) → has (bits s) k ≡ contains s k
 unfolding has
-has-bits s k = ap (λ (x : ℕ). eqb x 1) (bit-marks s k) ∙ mark-eqb (contains s k)
+has-bits s k = ap (λ (x : ℕ). eqb x 1) (bit-marks s k) ∙ bit-eqb (contains s k)
 
 -- ---- the lowest position
 
@@ -249,11 +245,6 @@ trailing-lowest zero set some h = absurd (some (omega arith))
 trailing-lowest (suc digits) set some h =
     lowest-step set (trailingZeros digits (set / 2)) (set % 2) refl (mod-lt set (zero-lt-suc 1))
     (λ e. trailing-lowest digits (set / 2) (λ z. some (omega arith)) (let p = pow-succ' 2 digits in omega arith))
-
-pub trailing-none : (digits set k : ℕ) → set < 2 ^ digits → k < trailingZeros digits set → has set k ≡ false
-trailing-none digits set k h l =
-    bool-cases (eqb set 0) (λ t. ap (λ (x : ℕ). has x k) (eqb-true set 0 t) ∙ has-none k)
-    (λ t. trailing-lowest digits set (eqb-false set 0 t) h .below k l)
 
 -- a position that is in a set of so many digits
 pub digit-below : (digits set k : ℕ) → set < 2 ^ digits → In set k → k < digits
@@ -368,7 +359,7 @@ only-one-some a b d e = d (has-ext a b (λ k. beq-same (has a k) (has b k) (sym 
 pub only-one-in : (a b k : ℕ) → In (onlyOne a b) k → has b k ≡ not (has a k)
 only-one-in a b k h = beq-other (has a k) (has b k) (sym (has-one a b k) ∙ h)
 
-pub only-one-of : (a b k : ℕ) → In a k → has b k ≡ false → In (onlyOne a b) k
+only-one-of : (a b k : ℕ) → In a k → has b k ≡ false → In (onlyOne a b) k
 only-one-of a b k p q = has-one a b k ∙ ap₂ (λ (x y : Bool). not (Bool·beq x y)) p q
 
 pub only-one-out : (a b k : ℕ) → has (onlyOne a b) k ≡ false → has a k ≡ has b k
@@ -387,13 +378,6 @@ but-l a b k h = bool-cases (has a k) (λ e. e) (λ e. both-l a b k (only-one-in 
 pub but-out : (a b k : ℕ) → In (butNot a b) k → has b k ≡ false
 unfolding butNot
 but-out a b k h = not-so (has b k) (λ q. let p = but-l a b k h in clash (both-in a b k p q) (only-one-in a (both a b) k h ∙ ap not p))
-
--- one alone
-pub but-row : (a i k : ℕ) → In a k → (k ≡ i → ⊥) → In (butNot a (withRow 0 i)) k
-but-row a i k h d = but-in a (withRow 0 i) k h (not-so (has (withRow 0 i) k) (λ q. has-with-cases 0 i k q (λ z. clash z (has-none k)) d))
-
-pub but-self : (a i : ℕ) → In (butNot a (withRow 0 i)) i → ⊥
-but-self a i h = clash (has-with-self 0 i) (but-out a (withRow 0 i) i h)
 
 -- ---- a part of a set
 

@@ -2,3 +2,4 @@
 pub mod Bits
 pub mod Order
 pub mod Sizes
+pub mod Words

@@ -1,5 +1,5 @@
 -- How many positions a set has: none, one less without the lowest, fewer in a part of it, and those of two parts together. Assumes nothing.
-use mathlib.Core.Path.{_≡_, refl, sym, ap, ap₂, _∙_, subst}
+use mathlib.Core.Path.{_≡_, refl, ap₂, subst}
 use mathlib.Core.Bool.{Bool, true, false, cond}
 use Prim.Native.Nat.{ℕ, zero, suc, _+_, _≤_, _<_}
 use native.Mathlib.Nat.{not-suc-le-zero, lt-suc-self}
@@ -8,22 +8,22 @@ use native.Mathlib.Omega.{arith}
 use Rattle.definitions.proofs.Bools.{bool-cases, bool-eq, clash, not-so}
 use Rattle.definitions.proofs.Lists.{below-cases}
 use Rattle.bitsets.specs.Bits.{has, butNot, Inside, Sub, lowest, withoutLowest, rowsBelow, sizeBelow}
-use Rattle.bitsets.proofs.Bits.{In, Lowest, none-zero, has-none, rest-in, rest-of, rest-out, at-lowest, below-in, but-in, but-l, but-out}
+use Rattle.bitsets.proofs.Bits.{In, has-none, rest-in, rest-of, rest-out, at-lowest, below-in, but-in, but-l, but-out}
 
--- the count of one mark
-abbrev mark : Bool → ℕ
-mark b = cond b 1 0
+-- the count of one bit
+abbrev bit : Bool → ℕ
+bit b = cond b 1 0
 
 -- two sets with the same positions below n
 same-size : (n a b : ℕ) → ((k : ℕ) → k < n → has a k ≡ has b k) → sizeBelow n a ≡ sizeBelow n b
 unfolding sizeBelow
 same-size zero a b f = refl
-same-size (suc n) a b f = ap₂ (λ (x : ℕ) (y : Bool). x + mark y) (same-size n a b (λ k h. f k (omega arith))) (f n (lt-suc-self n))
+same-size (suc n) a b f = ap₂ (λ (x : ℕ) (y : Bool). x + bit y) (same-size n a b (λ k h. f k (omega arith))) (f n (lt-suc-self n))
 
 pub size-none : (n : ℕ) → sizeBelow n 0 ≡ 0
 unfolding sizeBelow
 size-none zero = refl
-size-none (suc n) = ap₂ (λ (x : ℕ) (y : Bool). x + mark y) (size-none n) (has-none n)
+size-none (suc n) = ap₂ (λ (x : ℕ) (y : Bool). x + bit y) (size-none n) (has-none n)
 
 -- a set with one position less
 size-less : (n m a b : ℕ) → m < n → In a m → has b m ≡ false → ((k : ℕ) → (k ≡ m → ⊥) → has b k ≡ has a k) → sizeBelow n a ≡ suc (sizeBelow n b)

@@ -2,11 +2,14 @@
 use definitions::Order;
 ghost use mathlib.Core.Path.{_≡_};
 ghost use Prim.Native.Nat.{ℕ, _<_};
-ghost use Rattle.bitsets.specs.Bits.{has, both, either, isSub, butNot, withRow, rowsBelow, Inside, lowest, withoutLowest, sizeBelow, compareBits};
+ghost use Rattle.bitsets.specs.Bits.{has, both, either, isSub, butNot, withRow, rowsBelow, Inside, lowest, withoutLowest, sizeBelow, compareBits, wordBits};
+
+// The positions that a word holds.
+pub const WORD_BITS: usize = 64;
 
 // Is row k in the set?
 pub fn has_row(set: u64, k: usize) -> bool
-    requires { ⌜ k < 64 ⌝ }
+    requires { ⌜ k < wordBits ⌝ }
     ensures { λ r. ⌜ r ≡ has set k ⌝ }
 {
     (set >> k) % 2 == 1
@@ -35,7 +38,7 @@ pub fn is_sub(a: u64, b: u64) -> bool
 
 // The set with row k.
 pub fn with_row(set: u64, k: usize) -> u64
-    requires { ⌜ k < 64 ⌝ }
+    requires { ⌜ k < wordBits ⌝ }
     ensures { λ r. ⌜ r ≡ withRow set k ⌝ }
 {
     set | (1u64 << k)
@@ -50,7 +53,7 @@ pub fn minus(a: u64, b: u64) -> u64
 
 // The rows below i.
 pub fn below(i: usize) -> u64
-    requires { ⌜ i < 64 ⌝ }
+    requires { ⌜ i < wordBits ⌝ }
     ensures { λ r. ⌜ r ≡ rowsBelow i ⌝ }
 {
     (1u64 << i) - 1

@@ -1,19 +1,17 @@
 -- The maximal sets of all rows are those of a part and those of the others; those of a part hold its common rows, and beside them a maximal
 -- set of its other rows. So sets that are listed part by part are all of them, none twice: `parts-adds`. Assumes nothing.
 use mathlib.Core.Path.{_≡_, refl, sym, ap, _∙_, subst}
-use mathlib.Core.Logic.{_⊎_, inl, inr, ⊎-elim}
-use mathlib.Core.Bool.{true, false, _||_}
+use mathlib.Core.Logic.{_⊎_, inl, inr}
 use mathlib.Core.List.{List, _++_, map}
-use Prim.Native.Nat.{ℕ, _≤_, _<_}
+use Prim.Native.Nat.{ℕ, _≤_}
 use native.Mathlib.Omega.{arith}
 use lib.Dec.{eqb}
-use lib.ListN.{length}
 use borrow.Author.Tests.{eqb-true, eqb-false}
 use Rattle.definitions.proofs.Bools.{bool-cases, clash, not-so}
 use Rattle.bitsets.specs.Bits.{has, butNot, either, Inside, Sub, sizeBelow}
 use Rattle.bitsets.proofs.Bits.{In, some, has-none, same-set, but-in, but-l, but-out, either-l, either-r, either-cases}
-use Rattle.cliques.specs.Maximal.{AdjacentToAll, Max, Adds}
-use Rattle.cliques.specs.Search.{adjacentBy, Split, Run}
+use Rattle.cliques.specs.Maximal.{Max, Adds}
+use Rattle.cliques.specs.Search.{adjacentBy, Split}
 use Rattle.cliques.specs.Parts.{Part, Common, Parts, ends, fills, next}
 use Rattle.cliques.proofs.Maximal.{Simple}
 use Rattle.cliques.proofs.Adds.{adds-none, adds-both, adds-map}
@@ -24,8 +22,8 @@ module _ (N : ℕ → ℕ) (n : ℕ) (g : Simple (adjacentBy N) n) where
   M = Max (adjacentBy N)
 
   -- a maximal set that is not empty
-  abbrev pub Filled : ℕ → ℕ → Type 0
-  Filled rows x = M rows x × ((k : ℕ) × In x k)
+  abbrev pub NonEmpty : ℕ → ℕ → Type 0
+  NonEmpty rows x = M rows x × ((k : ℕ) × In x k)
 
   -- ---- the rows that complement all others of a part
 
@@ -82,7 +80,7 @@ module _ (N : ℕ → ℕ) (n : ℕ) (g : Simple (adjacentBy N) n) where
         either-cases y common k (ap (λ (z : ℕ). has z k) (sym e) ∙ either-l x common k h) (λ p. p)
         (λ p. absurd (core-apart k k (mx .inside k h) p refl))
 
-    pub common-adds : (cap : ℕ) (l new : List ℕ) → Adds (M core) cap l (l ++ new) → Adds (M part) cap l (l ++ map (λ s. either s common) new)
+    common-adds : (cap : ℕ) (l new : List ℕ) → Adds (M core) cap l (l ++ new) → Adds (M part) cap l (l ++ map (λ s. either s common) new)
     common-adds cap l new a =
         adds-map cap (M core) (M part) (λ s. either s common) l new join-max
         (λ x y p q e. same-set x y (same-core x y p q e) (same-core y x q p (sym e))) part-max a
@@ -105,7 +103,7 @@ module _ (N : ℕ → ℕ) (n : ℕ) (g : Simple (adjacentBy N) n) where
         (λ t. absurd (m .full (p .row) (p .there) (λ k h. absurd (clash h (ap (λ (y : ℕ). has y k) (eqb-true x 0 t) ∙ has-none k)))))
         (λ t. some x (eqb-false x 0 t))
 
-    of-part : (x : ℕ) → M part x → Filled rows x
+    of-part : (x : ℕ) → M part x → NonEmpty rows x
     of-part x m =
         let k = part-some x m in (
           record {
@@ -118,7 +116,7 @@ module _ (N : ℕ → ℕ) (n : ℕ) (g : Simple (adjacentBy N) n) where
           k,
         )
 
-    of-others : (x : ℕ) → Filled others x → Filled rows x
+    of-others : (x : ℕ) → NonEmpty others x → NonEmpty rows x
     of-others x (m, k) = (
       record {
         inside = λ j h. but-l rows part j (m .inside j h);
@@ -130,10 +128,10 @@ module _ (N : ℕ → ℕ) (n : ℕ) (g : Simple (adjacentBy N) n) where
       k,
     )
 
-    apart : (x : ℕ) → M part x → Filled others x → ⊥
+    apart : (x : ℕ) → M part x → NonEmpty others x → ⊥
     apart x m (o, k) = clash (m .inside (k .0) (k .1)) (but-out rows part (k .0) (o .inside (k .0) (k .1)))
 
-    one-of : (x : ℕ) → Filled rows x → M part x ⊎ Filled others x
+    one-of : (x : ℕ) → NonEmpty rows x → M part x ⊎ NonEmpty others x
     one-of x (m, k) =
         bool-cases (has part (k .0))
         (λ t. inl (record { inside = stays x m (k .0) (k .1) t; clique = m .clique; full = λ j h adjacent. m .full j (p .within j h) adjacent }))
@@ -146,7 +144,7 @@ module _ (N : ℕ → ℕ) (n : ℕ) (g : Simple (adjacentBy N) n) where
           k,
         ))
 
-  pub parts-adds : (cap width : ℕ) (fits : n ≤ width) {rows calls : ℕ} {l out : List ℕ} → Parts N cap width rows l out calls → Inside rows n → Adds (Filled rows) cap l out
+  pub parts-adds : (cap width : ℕ) (fits : n ≤ width) {rows calls : ℕ} {l out : List ℕ} → Parts N cap width rows l out calls → Inside rows n → Adds (NonEmpty rows) cap l out
   parts-adds cap width fits {l = l} (ends e) h =
       adds-none cap _ l (λ few x q. clash (q .0 .inside (q .1 .0) (q .1 .1)) (ap (λ (y : ℕ). has y (q .1 .0)) e ∙ has-none (q .1 .0)))
   parts-adds cap width fits {l = l} (fills e) h = adds-none cap _ l (λ few x q. omega arith)
@@ -160,7 +158,7 @@ module _ (N : ℕ → ℕ) (n : ℕ) (g : Simple (adjacentBy N) n) where
         apart = λ k q. has-none k;
         counted = refl;
       } in
-      adds-both cap (M part) (Filled (butNot rows part)) (Filled rows)
+      adds-both cap (M part) (NonEmpty (butNot rows part)) (NonEmpty rows)
       (of-part rows part h p) (of-others rows part h p) (one-of rows part h p) (apart rows part h p)
       (common-adds part common within c cap l new (run-adds N n width g cap a split))
       (parts-adds cap width fits b (λ k q. h k (but-l rows part k q)))

@@ -21,22 +21,22 @@ use Rattle.bitsets.proofs.Bits.{In, some, has-none, has-with-self, has-with-old
 use Rattle.bitsets.proofs.Order.{setBits}
 use Rattle.cliques.specs.Graph.{adjacent, Graph, AllSets}
 use Rattle.cliques.specs.Maximal.{Once, Max, Adds}
-use Rattle.cliques.specs.Search.{rowOf, adjacentBy}
-use Rattle.cliques.specs.Parts.{RowsOf, Listed}
+use Rattle.cliques.specs.Search.{rowOf}
+use Rattle.cliques.specs.Parts.{RowsOf, RanParts}
 use Rattle.cliques.proofs.Sublists.{ascending-once, no-longer}
 use Rattle.cliques.proofs.Maximal.{Simple}
 use Rattle.cliques.proofs.Adds.{adds-same}
 use Rattle.cliques.proofs.Listed.{listed, listed-rises, listed-max, max-listed}
-use Rattle.cliques.proofs.ByParts.{Filled, parts-adds}
+use Rattle.cliques.proofs.ByParts.{NonEmpty, parts-adds}
 use Rattle.cliques.proofs.Turns.{simple}
 
 -- the list has the definition's sets, or `cap` of them
-pub record Counted (adjacent : ℕ → ℕ → Bool) (n cap : ℕ) (l : List ℕ) : Type 0 where
+pub record CountedSets (adjacent : ℕ → ℕ → Bool) (n cap : ℕ) (l : List ℕ) : Type 0 where
   pub count : length l ≡ min cap (length (listed adjacent n))
   pub sets : length l < cap → ascending compareBits l ≡ listed adjacent n
 
 pub counted : (adjacent : ℕ → ℕ → Bool) (n : ℕ) → Simple adjacent n → (cap : ℕ) (l : List ℕ) → 0 < n → length l ≤ cap → Adds (Max adjacent (rowsBelow n)) cap [] l
-    → Counted adjacent n cap l
+    → CountedSets adjacent n cap l
 counted adjacent n g cap l pos full m =
     let all = listed adjacent n in
     let own = ascending compareBits l in
@@ -74,7 +74,7 @@ module _ (neighbours : List ℕ) (n : ℕ) (g : Graph neighbours n) where
   start-rows width all fits e = record { n = n; graph = g; bits = fits; inside = λ k h. below-of n k (rw e at h) }
 
   module _ (width : ℕ) (bits-fit : n ≤ width) (list : List ℕ) (found all : ℕ) (pos : 0 < n) (fits : found ≤ length list) (few : found ≤ suc maxSets)
-      (ea : all ≡ rowsBelow n) (l : Listed (rowOf neighbours) (suc maxSets) width all [] (take found list)) where
+      (ea : all ≡ rowsBelow n) (l : RanParts (rowOf neighbours) (suc maxSets) width all [] (take found list)) where
     pub held : length (take found list) ≡ found
     held = length-take-le found list fits
 
@@ -87,20 +87,20 @@ module _ (neighbours : List ℕ) (n : ℕ) (g : Graph neighbours n) where
 
     adds : Adds (Max (adjacent neighbours) (rowsBelow n)) (suc maxSets) [] (take found list)
     adds =
-        adds-same (suc maxSets) (Filled (rowOf neighbours) n (simple neighbours n g) all) (Max (adjacent neighbours) (rowsBelow n))
+        adds-same (suc maxSets) (NonEmpty (rowOf neighbours) n (simple neighbours n g) all) (Max (adjacent neighbours) (rowsBelow n))
         (λ x p. rw ea at (p .0))
         (λ x m. (rw ea m, filled x m))
         (parts-adds (rowOf neighbours) n (simple neighbours n g) (suc maxSets) width bits-fit (l .1) (λ k h. below-of n k (rw ea at h)))
 
-    result : Counted (adjacent neighbours) n (suc maxSets) (take found list)
+    result : CountedSets (adjacent neighbours) n (suc maxSets) (take found list)
     result = counted (adjacent neighbours) n (simple neighbours n g) (suc maxSets) (take found list) pos (omega (arith, held)) adds
 
-    pub number : found ≡ min (suc maxSets) (length (maximalSets (adjacent neighbours) n))
-    number = sym held ∙ result .count ∙ ap (min (suc maxSets)) (length-map (maximalSets (adjacent neighbours) n) bits)
+    pub sets-counted : found ≡ min (suc maxSets) (length (maximalSets (adjacent neighbours) n))
+    sets-counted = sym held ∙ result .count ∙ ap (min (suc maxSets)) (length-map (maximalSets (adjacent neighbours) n) bits)
 
     -- more than are listed
     pub many-found : maxSets < found → AllSets neighbours n list found
-    many-found many = record { counts = number; lists = λ h. absurd (omega arith) }
+    many-found many = record { counts = sets-counted; lists = λ h. absurd (omega arith) }
 
     -- no more than are listed, and put in order
     pub all-found : found ≤ maxSets → (out : List ℕ) (r : ℕ) → r ≤ length out → take r out ≡ ascending compareBits (take found list)
@@ -109,4 +109,4 @@ module _ (neighbours : List ℕ) (n : ℕ) (g : Graph neighbours n) where
         let whole : take r out ≡ map bits (maximalSets (adjacent neighbours) n) = o ∙ result .sets (omega (arith, held)) in
         let own : r ≡ length (maximalSets (adjacent neighbours) n) =
         sym (length-take-le r out room) ∙ ap length whole ∙ length-map (maximalSets (adjacent neighbours) n) bits in
-        record { counts = omega (arith, number); lists = λ h. whole }
+        record { counts = omega (arith, sets-counted); lists = λ h. whole }

@@ -2,13 +2,10 @@
 use mathlib.Core.Path.{_≡_, refl, sym, ap, _∙_, subst}
 use mathlib.Core.Logic.{_⊎_, inl, inr, ⊎-elim}
 use mathlib.Core.Bool.{true, false}
-use Prim.Native.Nat.{ℕ, _≤_, _<_}
-use native.Mathlib.Omega.{arith}
-use lib.Dec.{eqb}
-use borrow.Author.Tests.{eqb-true, eqb-false}
+use Prim.Native.Nat.{ℕ, _<_}
 use Rattle.definitions.proofs.Bools.{bool-cases, clash, not-so}
 use Rattle.bitsets.specs.Bits.{has, both, either, butNot, isSub, withRow, lowest, Inside, Sub}
-use Rattle.bitsets.proofs.Bits.{In, has-none, has-with-self, has-with-old, has-with-cases, both-in, both-l, both-r, either-l, either-r, either-cases, but-in, but-l, but-out, at-lowest, lowest-inside, sub-true, sub-less}
+use Rattle.bitsets.proofs.Bits.{In, has-none, has-with-self, has-with-old, has-with-cases, both-in, both-r, either-l, either-r, but-in, but-l, but-out, at-lowest, lowest-inside, sub-true, sub-less}
 use Rattle.cliques.specs.Search.{adjacentBy}
 use Rattle.cliques.specs.Parts.{Part, Common}
 

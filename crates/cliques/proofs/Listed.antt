@@ -20,7 +20,7 @@ use Rattle.cliques.specs.Maximal.{Max}
 use Rattle.bitsets.proofs.Bits.{has-ext, has-bits, below-of, below-in}
 use Rattle.bitsets.proofs.Order.{setBits, set-order}
 use Rattle.cliques.proofs.Sublists.{strict-map}
-use Rattle.cliques.proofs.Marks.{marks, marks-length, marks-at, marks-below}
+use Rattle.cliques.proofs.Tabulate.{tabulate, tabulate-length, tabulate-at, tabulate-below}
 
 -- the definition's sets as numbers
 abbrev pub listed : (ℕ → ℕ → Bool) → ℕ → List ℕ
@@ -69,12 +69,12 @@ module _ (adjacent : ℕ → ℕ → Bool) (n : ℕ) where
 
     pub max-listed : 0 < n → (w : ℕ) → Max adjacent (rowsBelow n) w → Member w (listed adjacent n)
     max-listed pos w m =
-        let s = marks n (has w) in
+        let s = tabulate n (has w) in
         let e : bits s ≡ w =
-        has-ext (bits s) w (λ k. has-bits s k ∙ bool-cases (ltb k n) (λ t. marks-at n (has w) k (ltb-true k n t))
+        has-ext (bits s) w (λ k. has-bits s k ∙ bool-cases (ltb k n) (λ t. tabulate-at n (has w) k (ltb-true k n t))
         (λ t.
         let l = ltb-false k n t in
-        not-so (contains s k) (λ h. let r = marks-below n (has w) k h in omega arith)
+        not-so (contains s k) (λ h. let r = tabulate-below n (has w) k h in omega arith)
         ∙ sym (not-so (has w k) (λ h. let r = below-of n k (m .inside k h) in omega arith)))) in
         subst (λ (x : ℕ). Member x (listed adjacent n)) e
-        (member-map bits s (maximalSets adjacent n) (listed-is adjacent n s .1 (of-max pos s (marks-length n (has w)) (subst (Max adjacent (rowsBelow n)) (sym e) m))))
+        (member-map bits s (maximalSets adjacent n) (listed-is adjacent n s .1 (of-max pos s (tabulate-length n (has w)) (subst (Max adjacent (rowsBelow n)) (sym e) m))))

@@ -5,13 +5,11 @@ use mathlib.Core.Logic.{_⊎_, inl, inr, ⊎-elim}
 use mathlib.Core.Bool.{Bool, true, false, cond, not, _&&_}
 use Prim.Native.Nat.{ℕ, zero, suc, _≤_, _<_}
 use native.Mathlib.Decide.{le-ind}
-use native.Mathlib.Nat.{not-suc-le-zero, lt-suc-self}
 use native.Mathlib.Omega.{arith}
-use lib.Dec.{eqb, ltb}
-use borrow.Author.Tests.{eqb-true, eqb-false, eq-eqb}
+use lib.Dec.{eqb}
+use borrow.Author.Tests.{eqb-true, eqb-false}
 use Rattle.definitions.proofs.Bools.{bool-cases, clash, not-so, and-l, and-r, and-i}
-use Rattle.definitions.proofs.Lists.{below-cases}
-use Rattle.bitsets.specs.Bits.{has, both, isSub, withRow, onlyOne, lowest, Inside, Sub}
+use Rattle.bitsets.specs.Bits.{has, isSub, withRow, onlyOne, lowest, Inside, Sub}
 use Rattle.cliques.specs.Maximal.{AdjacentToAll, Clique, Max}
 use Rattle.cliques.specs.Search.{adjacentBy, kept, taken, MayTake}
 use Rattle.bitsets.proofs.Bits.{In, has-with-self, has-with-old, has-with-cases, same-set, both-in, both-l, both-r, sub-same, sub-true, sub-of, is-lowest, only-one-some, only-one-in, only-one-out}

@@ -1,8 +1,7 @@
 -- The sets of a part are listed after those that are listed already, and part after part until no row is left. Assumes nothing.
 use mathlib.Core.Path.{_≡_, refl, sym, ap, ap₂, _∙_, subst}
-use mathlib.Core.Bool.{true}
 use mathlib.Core.List.{List, [], _∷_, _++_, map, append-nil, append-assoc}
-use Prim.Native.Nat.{ℕ, suc, _+_, _-_, _≤_, _<_}
+use Prim.Native.Nat.{ℕ, _+_, _-_, _≤_, _<_}
 use native.Mathlib.Omega.{arith}
 use lib.ListN.{length, take, drop, length-append, length-map}
 use lib.Seq.{length-take-le, take-add, take-at, drop-at}
@@ -11,13 +10,13 @@ use Rattle.bitsets.specs.Bits.{has, butNot, either, Inside, Sub, sizeBelow}
 use Rattle.bitsets.proofs.Bits.{has-none, but-l, but-out, sub-less}
 use Rattle.cliques.specs.Graph.{adjacent}
 use Rattle.cliques.specs.Search.{rowOf, adjacentBy, Run, stops, lists, joins, leaves, takes, Ran, Ready}
-use Rattle.cliques.specs.Parts.{Part, Common, Parts, ends, fills, next, Listed, RowsOf, Searched}
+use Rattle.cliques.specs.Parts.{Part, Common, Parts, ends, fills, next, RanParts, RowsOf, Searched}
 use Rattle.cliques.proofs.Run.{none-max}
 use Rattle.cliques.proofs.Turns.{simple}
 
 -- ---- a run adds to the list
 
-pub run-extends : {N : ℕ → ℕ} {cap f d rest set calls : ℕ} {l out : List ℕ} → Run N cap f d rest set l out calls → (new : List ℕ) × (out ≡ l ++ new)
+run-extends : {N : ℕ → ℕ} {cap f d rest set calls : ℕ} {l out : List ℕ} → Run N cap f d rest set l out calls → (new : List ℕ) × (out ≡ l ++ new)
 run-extends {l = l} (stops h) = ([], sym (append-nil l))
 run-extends {set = set} (lists h) = (set ∷ [], refl)
 run-extends (joins h s a) = run-extends a
@@ -112,17 +111,17 @@ module _ (cap : ℕ) {width : ℕ} {neighbours : List ℕ} {part : ℕ} (r : Row
 
 -- what the list grows to from here on is what it grows to from the start
 abbrev pub Continues : (ℕ → ℕ) → ℕ → ℕ → ℕ → ℕ → List ℕ → Type 0
-Continues N cap n rows rest l = (out : List ℕ) (more : ℕ) → Parts N cap n rest l out more → Listed N cap n rows [] out
+Continues N cap n rows rest l = (out : List ℕ) (more : ℕ) → Parts N cap n rest l out more → RanParts N cap n rows [] out
 
 module _ (N : ℕ → ℕ) (cap n rows : ℕ) where
   pub continue-start : Continues N cap n rows rows []
   continue-start out more p = (more, p)
 
   module _ (rest : ℕ) (l : List ℕ) (c : Continues N cap n rows rest l) where
-    pub continue-end : rest ≡ 0 → Listed N cap n rows [] l
+    pub continue-end : rest ≡ 0 → RanParts N cap n rows [] l
     continue-end e = c l 0 (ends e)
 
-    pub continue-full : cap ≤ length l → Listed N cap n rows [] l
+    pub continue-full : cap ≤ length l → RanParts N cap n rows [] l
     continue-full h = c l 0 (fills h)
 
     pub continue-part : length l < cap → (part left : ℕ) → Part (adjacentBy N) rest part → left ≡ butNot rest part → (out : List ℕ)

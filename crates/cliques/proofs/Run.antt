@@ -2,16 +2,14 @@
 use mathlib.Core.Path.{_≡_, refl, sym, ap, _∙_, subst}
 use mathlib.Core.Logic.{_⊎_, inl, inr, ⊎-elim}
 use mathlib.Core.Bool.{true, false}
-use mathlib.Core.List.{List, [], _∷_, _++_}
-use Prim.Native.Nat.{ℕ, zero, suc, _-_, _≤_, _<_}
-use native.Mathlib.Nat.{not-suc-le-zero}
+use mathlib.Core.List.{List}
+use Prim.Native.Nat.{ℕ, zero, suc, _-_, _<_}
 use native.Mathlib.Omega.{arith}
-use lib.ListN.{length}
 use lib.Dec.{eqb}
 use borrow.Author.Tests.{eqb-true, eqb-false}
 use Rattle.definitions.proofs.Bools.{bool-cases, clash, not-so}
 use Rattle.bitsets.specs.Bits.{has, isSub, withRow, Inside, lowest, withoutLowest, sizeBelow}
-use Rattle.bitsets.proofs.Bits.{In, Lowest, at-lowest, has-none, has-ext, has-with-self, has-with-old, has-with-cases, same-set, rest-in, rest-of, rest-out, rest-inside}
+use Rattle.bitsets.proofs.Bits.{In, Lowest, at-lowest, has-none, has-ext, has-with-self, has-with-old, has-with-cases, same-set, rest-in, rest-of, rest-out}
 use Rattle.bitsets.proofs.Sizes.{size-none, size-next, size-zero}
 use Rattle.cliques.specs.Maximal.{Max, Adds}
 use Rattle.cliques.specs.Search.{adjacentBy, kept, taken, MayTake, Split, Run, stops, lists, joins, leaves, takes}
@@ -22,11 +20,11 @@ use Rattle.cliques.proofs.Adds.{adds-none, adds-one, adds-same, adds-bo
 
 module _ {n width d rest f : ℕ} (s : Split n width d rest f) where
   -- the undecided rows have their bits
-  pub ahead-bits : Inside rest width
+  ahead-bits : Inside rest width
   ahead-bits k h = omega (arith, s .ahead k h, s .fits)
 
   -- none is left
-  pub split-none : f ≡ 0 → rest ≡ 0
+  split-none : f ≡ 0 → rest ≡ 0
   split-none e = size-zero width rest ahead-bits (s .counted ∙ e)
 
   pub split-some : (f ≡ 0 → ⊥) → 0 < rest
@@ -58,9 +56,9 @@ module _ {n width d rest f : ℕ} (s : Split n width d rest f) where
 
 -- ---- what the search may reach: x, by a step for each of f undecided rows
 
-abbrev pub Reach : (ℕ → ℕ) → ℕ → ℕ → ℕ → ℕ → ℕ → Type 0
-Reach N x zero d rest set = set ≡ x
-Reach N x (suc f) d rest set = (next : ℕ) × Step N d (lowest rest) set next × Reach N x f (withRow d (lowest rest)) (withoutLowest rest) next
+abbrev pub Reachable : (ℕ → ℕ) → ℕ → ℕ → ℕ → ℕ → ℕ → Type 0
+Reachable N x zero d rest set = set ≡ x
+Reachable N x (suc f) d rest set = (next : ℕ) × Step N d (lowest rest) set next × Reachable N x f (withRow d (lowest rest)) (withoutLowest rest) next
 
 module _ (N : ℕ → ℕ) (n width : ℕ) (g : Simple (adjacentBy N) n) where
   abbrev M : ℕ → ℕ → Type 0
@@ -84,7 +82,7 @@ module _ (N : ℕ → ℕ) (n width : ℕ) (g : Simple (adjacentBy N) n) where
     next-one = one-parent N n g d (s .past) (lowest rest) (split-row s some (lowest rest) refl) (split-new s some (lowest rest) refl)
 
   -- a set is reached from one set alone
-  one-way : (x f d rest b c : ℕ) → Split n width d rest f → M d b → M d c → Reach N x f d rest b → Reach N x f d rest c → b ≡ c
+  one-way : (x f d rest b c : ℕ) → Split n width d rest f → M d b → M d c → Reachable N x f d rest b → Reachable N x f d rest c → b ≡ c
   one-way x zero d rest b c s mb mc r q = r ∙ sym q
   one-way x (suc f) d rest b c s mb mc r q =
       let same : r .0 ≡ q .0 =
@@ -93,7 +91,7 @@ module _ (N : ℕ → ℕ) (n width : ℕ) (g : Simple (adjacentBy N) n) where
 
   -- so taking a row leads to no set that leaving it leads to
   apart : (x f d rest set : ℕ) → Split n width d rest (suc f) → M d set → Step N d (lowest rest) set (taken N set (lowest rest)) → Step N d (lowest rest) set set
-      → Reach N x f (withRow d (lowest rest)) (withoutLowest rest) (taken N set (lowest rest)) → Reach N x f (withRow d (lowest rest)) (withoutLowest rest) set → ⊥
+      → Reachable N x f (withRow d (lowest rest)) (withoutLowest rest) (taken N set (lowest rest)) → Reachable N x f (withRow d (lowest rest)) (withoutLowest rest) set → ⊥
   apart x f d rest set s m t l r q =
       let i = lowest rest in
       let same : taken N set i ≡ set =
@@ -113,32 +111,32 @@ module _ (N : ℕ → ℕ) (n width : ℕ) (g : Simple (adjacentBy N) n) where
 
   module _ (cap : ℕ) where
     run-reach : {f d rest set calls : ℕ} {l out : List ℕ} → Run N cap f d rest set l out calls → Split n width d rest f → M d set
-        → Adds (λ x. Reach N x f d rest set) cap l out
+        → Adds (λ x. Reachable N x f d rest set) cap l out
     run-reach {l = l} (stops h) s m = adds-none cap _ l (λ few x p. omega arith)
     run-reach {set = set} {l = l} (lists h) s m = adds-one cap _ l set refl (λ y p. sym p)
     run-reach {f = suc f} {d = d} {rest = rest} {set = set} (joins h t a) s m =
         let to : Step N d (lowest rest) set (withRow set (lowest rest)) = joined t refl in
-        adds-same cap (λ x. Reach N x f (withRow d (lowest rest)) (withoutLowest rest) (withRow set (lowest rest))) (λ x. Reach N x (suc f) d rest set)
+        adds-same cap (λ x. Reachable N x f (withRow d (lowest rest)) (withoutLowest rest) (withRow set (lowest rest))) (λ x. Reachable N x (suc f) d rest set)
         (λ x r. (withRow set (lowest rest), to, r))
-        (λ x r. joined-to t (r .1) (λ q. subst (Reach N x f (withRow d (lowest rest)) (withoutLowest rest)) (sym q) (r .2)))
+        (λ x r. joined-to t (r .1) (λ q. subst (Reachable N x f (withRow d (lowest rest)) (withoutLowest rest)) (sym q) (r .2)))
         (run-reach a (next-split s) (next-max s set (withRow set (lowest rest)) m to))
     run-reach {f = suc f} {d = d} {rest = rest} {set = set} (leaves h t never a) s m =
         let to : Step N d (lowest rest) set set = left t refl in
-        adds-same cap (λ x. Reach N x f (withRow d (lowest rest)) (withoutLowest rest) set) (λ x. Reach N x (suc f) d rest set)
+        adds-same cap (λ x. Reachable N x f (withRow d (lowest rest)) (withoutLowest rest) set) (λ x. Reachable N x (suc f) d rest set)
         (λ x r. (set, to, r))
-        (λ x r. left-to t (r .1) (λ q. subst (Reach N x f (withRow d (lowest rest)) (withoutLowest rest)) (sym q) (r .2)) (λ y q. absurd (never y)))
+        (λ x r. left-to t (r .1) (λ q. subst (Reachable N x f (withRow d (lowest rest)) (withoutLowest rest)) (sym q) (r .2)) (λ y q. absurd (never y)))
         (run-reach a (next-split s) (next-max s set set m to))
     run-reach {f = suc f} {d = d} {rest = rest} {set = set} (takes h t may a b) s m =
         let i = lowest rest in
         let out : Step N d i set (taken N set i) = took t may refl in
         let stay : Step N d i set set = left t refl in
-        adds-both cap (λ x. Reach N x f (withRow d (lowest rest)) (withoutLowest rest) (taken N set (lowest rest)))
-        (λ x. Reach N x f (withRow d (lowest rest)) (withoutLowest rest) set) (λ x. Reach N x (suc f) d rest set)
+        adds-both cap (λ x. Reachable N x f (withRow d (lowest rest)) (withoutLowest rest) (taken N set (lowest rest)))
+        (λ x. Reachable N x f (withRow d (lowest rest)) (withoutLowest rest) set) (λ x. Reachable N x (suc f) d rest set)
         (λ x r. (taken N set (lowest rest), out, r))
         (λ x r. (set, stay, r))
         (λ x r. left-to t (r .1)
-        (λ q. inr (subst (Reach N x f (withRow d (lowest rest)) (withoutLowest rest)) (sym q) (r .2)))
-        (λ y q. inl (subst (Reach N x f (withRow d (lowest rest)) (withoutLowest rest)) (sym q) (r .2))))
+        (λ q. inr (subst (Reachable N x f (withRow d (lowest rest)) (withoutLowest rest)) (sym q) (r .2)))
+        (λ y q. inl (subst (Reachable N x f (withRow d (lowest rest)) (withoutLowest rest)) (sym q) (r .2))))
         (λ x r q. apart x f d rest set s m out stay r q)
         (run-reach a (next-split s) (next-max s set (taken N set i) m out))
         (run-reach b (next-split s) (next-max s set set m stay))
@@ -168,13 +166,13 @@ module _ (N : ℕ → ℕ) (n width : ℕ) (g : Simple (adjacentBy N) n) where
             (λ p. w k .1 (inr (rest-in rest k p))) c,
       )
 
-  reach-max : (x f d rest set rows : ℕ) → Split n width d rest f → Whole rows d rest → M d set → Reach N x f d rest set → M rows x
+  reach-max : (x f d rest set rows : ℕ) → Split n width d rest f → Whole rows d rest → M d set → Reachable N x f d rest set → M rows x
   reach-max x zero d rest set rows s w m r =
       subst (λ (y : ℕ). M y x) (whole-end rows d rest w (split-none s refl)) (subst (M d) r m)
   reach-max x (suc f) d rest set rows s w m r =
       reach-max x f (withRow d (lowest rest)) (withoutLowest rest) (r .0) rows (next-split s) (whole-next rows s w) (next-max s set (r .0) m (r .1)) (r .2)
 
-  reached : (x f d rest rows : ℕ) → Split n width d rest f → Whole rows d rest → M rows x → (set : ℕ) × M d set × Reach N x f d rest set
+  reached : (x f d rest rows : ℕ) → Split n width d rest f → Whole rows d rest → M rows x → (set : ℕ) × M d set × Reachable N x f d rest set
   reached x zero d rest rows s w m = (x, subst (λ (y : ℕ). M y x) (sym (whole-end rows d rest w (split-none s refl))) m, refl)
   reached x (suc f) d rest rows s w m =
       let r = reached x f (withRow d (lowest rest)) (withoutLowest rest) rows (next-split s) (whole-next rows s w) m in
@@ -195,7 +193,7 @@ module _ (N : ℕ → ℕ) (n width : ℕ) (g : Simple (adjacentBy N) n) where
   pub run-adds : (cap : ℕ) {f rows calls : ℕ} {l out : List ℕ} → Run N cap f 0 rows 0 l out calls → Split n width 0 rows f → Adds (M rows) cap l out
   run-adds cap {f} {rows} a s =
       let w : Whole rows 0 rows = λ k. (λ h. inr h, λ c. ⊎-elim (λ p. absurd (clash p (has-none k))) (λ p. p) c) in
-      adds-same cap (λ x. Reach N x f 0 rows 0) (M rows)
+      adds-same cap (λ x. Reachable N x f 0 rows 0) (M rows)
       (λ x r. reach-max x f 0 rows 0 rows s w none-max r)
-      (λ x m. let r = reached x f 0 rows rows s w m in subst (Reach N x f 0 rows) (none-only (r .0) (r .1)) (r .2))
+      (λ x m. let r = reached x f 0 rows rows s w m in subst (Reachable N x f 0 rows) (none-only (r .0) (r .1)) (r .2))
       (run-reach cap a s none-max)

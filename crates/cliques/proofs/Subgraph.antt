@@ -16,7 +16,7 @@ use Rattle.definitions.proofs.Orders.{sets}
 use Rattle.definitions.proofs.Sets.{Holds, Complementing, Maximal, holds-within, marks-ext, listed-is, listed-rise}
 use Rattle.definitions.proofs.Completion.{completion}
 use Rattle.cliques.proofs.Sublists.{no-longer}
-use Rattle.cliques.proofs.Marks.{marks, marks-length, marks-at, marks-pass}
+use Rattle.cliques.proofs.Tabulate.{tabulate, tabulate-length, tabulate-at, tabulate-pass}
 
 module _ (adjacent : ℕ → ℕ → Bool) (n : ℕ) (symmetric : (j k : ℕ) → j < n → k < n → adjacent j k ≡ true → adjacent k j ≡ true) where
   -- m rows are kept, the j-th of them row `row j`
@@ -27,25 +27,25 @@ module _ (adjacent : ℕ → ℕ → Bool) (n : ℕ) (symmetric : (j k : ℕ) �
 
     -- what a set leaves among the kept rows
     abbrev left : List Bool → List Bool
-    left t = marks m (λ j. contains t (row j))
+    left t = tabulate m (λ j. contains t (row j))
 
     -- the rows of a set of kept rows
     abbrev isRow : List Bool → ℕ → Bool
     isRow s p = not (allBelow m (λ j. not (contains s j && eqb (row j) p)))
 
     abbrev rows : List Bool → List Bool
-    rows s = marks n (isRow s)
+    rows s = tabulate n (isRow s)
 
     row-in : (s : List Bool) (j : ℕ) → j < m → Holds s j → Holds (rows s) (row j)
     row-in s j h k =
-        marks-at n (isRow s) (row j) (within j h)
+        tabulate-at n (isRow s) (row j) (within j h)
         ∙ ap not (not-so (allBelow m (λ i. not (contains s i && eqb (row i) (row j))))
         (λ t. clash (below-true (λ i. not (contains s i && eqb (row i) (row j))) m t j h) (ap not (and-i k (eq-eqb (row j) (row j) refl)))))
 
     row-of : (s : List Bool) (p : ℕ) → Holds (rows s) p → (j : ℕ) × Holds s j × (row j ≡ p)
     row-of s p h =
         let k = below-false (λ j. not (contains s j && eqb (row j) p)) m
-        (not-true (allBelow m (λ j. not (contains s j && eqb (row j) p))) (marks-pass n (isRow s) p h)) in
+        (not-true (allBelow m (λ j. not (contains s j && eqb (row j) p))) (tabulate-pass n (isRow s) p h)) in
         let both = not-false (contains s (k .0) && eqb (row (k .0)) p) (k .2) in
         (k .0, and-l (contains s (k .0)) (eqb (row (k .0)) p) both, eqb-true (row (k .0)) p (and-r (contains s (k .0)) (eqb (row (k .0)) p) both))
 
@@ -55,7 +55,7 @@ module _ (adjacent : ℕ → ℕ → Bool) (n : ℕ) (symmetric : (j k : ℕ) �
 
       rows-complement : Complementing adjacent n (rows s)
       rows-complement = record {
-        size = marks-length n (isRow s);
+        size = tabulate-length n (isRow s);
         some = let k = max .complementing .some in (row (k .0), row-in s (k .0) (below (k .0) (k .1)) (k .1));
         pairwise = λ p q hp hq d.
             let a = row-of s p hp in
@@ -68,10 +68,10 @@ module _ (adjacent : ℕ → ℕ → Bool) (n : ℕ) (symmetric : (j k : ℕ) �
       leaves : (t : List Bool) → Maximal adjacent n t → ((k : ℕ) → Holds (rows s) k → Holds t k) → left t ≡ s
       leaves t top holds =
           let up : (j : ℕ) → Holds s j → Holds t (row j) = λ j h. holds (row j) (row-in s j (below j h) h) in
-          marks-ext (left t) s (marks-length m (λ j. contains t (row j)) ∙ sym (max .complementing .size))
+          marks-ext (left t) s (tabulate-length m (λ j. contains t (row j)) ∙ sym (max .complementing .size))
           (λ k h.
-          let lt : k < m = omega (arith, marks-length m (λ j. contains t (row j))) in
-          marks-at m (λ j. contains t (row j)) k lt
+          let lt : k < m = omega (arith, tabulate-length m (λ j. contains t (row j))) in
+          tabulate-at m (λ j. contains t (row j)) k lt
           ∙ bool-eq (contains t (row k)) (contains s k)
           (λ there. bool-cases (contains s k) (λ e. e)
           (λ e.
@@ -92,7 +92,3 @@ module _ (adjacent : ℕ → ℕ → Bool) (n : ℕ) (symmetric : (j k : ℕ) �
         let c = completion adjacent n symmetric (rows s) (rows-complement s max) in
         subst (λ (x : List Bool). Member x (map left (maximalSets adjacent n))) (leaves s max (c .0) (listed-is adjacent n (c .0) .0 (c .1)) (c .2))
         (member-map left (c .0) (maximalSets adjacent n) (c .1))))
-
-  -- of the first rows
-  pub fewer-first : (m : ℕ) → m ≤ n → length (maximalSets adjacent m) ≤ length (maximalSets adjacent n)
-  fewer-first m h = fewer-sets m (λ j. j) (λ j k. omega arith) (λ j k hj hk e. e)

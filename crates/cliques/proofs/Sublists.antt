@@ -11,7 +11,7 @@ use Rattle.definitions.specs.declared.Order.the-variants.{Before, Same, After}
 use Rattle.definitions.specs.Ascending.{put, insert, ascending}
 use Rattle.definitions.specs.Statements.{Member, Orders, StrictlyAscending}
 use Rattle.definitions.proofs.Lists.{map-member}
-use Rattle.definitions.proofs.Ascending.{not-before-self, above-at, above-all, member-split, member-join, same-ascending, ascending-only}
+use Rattle.definitions.proofs.Ascending.{not-before-self, above-at, above-all, member-split, ascending-only}
 use Rattle.cliques.specs.Maximal.{Once}
 
 -- two lists that share no element, one after the other
@@ -44,14 +44,6 @@ module _ {A : Type 0} {compare : A → A → Order} (laws : Orders compare) wher
 
   -- ---- the elements of a list and one more
 
-  -- it is put into the others
-  pub ascending-next : (r : A) (t : List A) → ascending compare (t ++ (r ∷ [])) ≡ insert compare r (ascending compare t)
-  unfolding ascending
-  ascending-next r t =
-      same-ascending laws (t ++ (r ∷ [])) (r ∷ t)
-      (λ x k. ⊎-elim (λ p. inr p) (λ p. ⊎-elim (λ e. inl e) (λ z. absurd z) p) (member-split x t (r ∷ []) k))
-      (λ x k. member-join x t (r ∷ []) (⊎-elim (λ e. inr (inl e)) (λ p. inl p) k))
-
   put-new : (r u : A) (t i : List A) (o : Order) → compare r u ≡ o → (r ≡ u → ⊥) → length i ≡ suc (length t) → length (put o r u t i) ≡ suc (suc (length t))
   put-new r u t i Before e d h = refl
   put-new r u t i Same e d h = absurd (d (laws .same r u e))
@@ -70,7 +62,7 @@ module _ {A : Type 0} {compare : A → A → Order} (laws : Orders compare) wher
 
   -- ---- an ascending list whose elements all stand in another list is no longer
 
-  -- the list without the first place of x, which its other elements keep
+  -- the list without the first x, which its other elements keep
   record Without (x : A) (m : List A) : Type 0 where
     rest : List A
     shorter : length m ≡ suc (length rest)

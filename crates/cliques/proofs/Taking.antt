@@ -3,23 +3,22 @@
 use mathlib.Core.Path.{_≡_, refl, sym, ap, _∙_, subst}
 use mathlib.Core.Bool.{Bool, true, false}
 use mathlib.Core.List.{List}
-use Prim.Native.Nat.{ℕ, _≤_, _<_}
+use Prim.Native.Nat.{ℕ, _<_}
 use native.Mathlib.Omega.{arith}
 use lib.Dec.{eqb, ltb}
 use lib.ListN.{length}
 use borrow.Author.Tests.{eqb-true, eqb-false, ltb-true, ltb-false}
-use Rattle.definitions.proofs.Bools.{bool-cases, clash, not-so}
+use Rattle.definitions.proofs.Bools.{bool-cases, clash}
 use Rattle.bitsets.specs.Bits.{has, both, lowest, withoutLowest, Inside, Sub}
-use Rattle.bitsets.proofs.Bits.{In, Lowest, some, has-none, both-in, both-l, both-r, at-lowest, rest-in, rest-of, rest-out}
-use Rattle.cliques.specs.Graph.{adjacent, Graph}
-use Rattle.cliques.specs.Maximal.{AdjacentToAll, Clique, Max}
-use Rattle.cliques.specs.Search.{rowOf, adjacentBy, kept, MayTake, Asked, Free, Met, GrowsBack, Told}
-use Rattle.cliques.proofs.Maximal.{Simple}
+use Rattle.bitsets.proofs.Bits.{In, Lowest, some, has-none, both-in, both-l, both-r, at-lowest, rest-in, rest-of}
+use Rattle.cliques.specs.Graph.{adjacent}
+use Rattle.cliques.specs.Maximal.{AdjacentToAll, Clique}
+use Rattle.cliques.specs.Search.{rowOf, adjacentBy, kept, MayTake, Asked, FreeRows, GrowsBack, Decides}
 
 -- ---- the rows that complement each row of a set, row by row
 
 module _ (N : ℕ → ℕ) where
-  pub free-none : (set word : ℕ) → set ≡ 0 → Free (adjacentBy N) set word word
+  pub free-none : (set word : ℕ) → set ≡ 0 → FreeRows (adjacentBy N) set word word
   free-none set word e =
       record { within = λ k h. h; each = λ j k hj hk. absurd (clash hj (ap (λ (x : ℕ). has x j) e ∙ has-none j)); all = λ k h f. h }
 
@@ -27,7 +26,7 @@ module _ (N : ℕ → ℕ) where
     low : Lowest rest k
     low = at-lowest rest k pos ek
 
-    free-step : (r : ℕ) → Free (adjacentBy N) (withoutLowest rest) (both word (N k)) r → Free (adjacentBy N) rest word r
+    free-step : (r : ℕ) → FreeRows (adjacentBy N) (withoutLowest rest) (both word (N k)) r → FreeRows (adjacentBy N) rest word r
     free-step r c = record {
       within = λ j h. both-l word (N k) j (c .within j h);
       each = λ i j hi hj. bool-cases (eqb i k)
@@ -36,8 +35,8 @@ module _ (N : ℕ → ℕ) where
       all = λ j h f. c .all j (both-in word (N k) j h (f k (low .there))) (λ i hi. f i (rest-in rest i hi));
     }
 
-    pub free-turn : (r : ℕ) → Free (adjacentBy N) less more r → Free (adjacentBy N) rest word r
-    free-turn r c = free-step r (subst (λ (x : ℕ). Free (adjacentBy N) x (both word (N k)) r) er (subst (λ (x : ℕ). Free (adjacentBy N) less x r) ew c))
+    pub free-turn : (r : ℕ) → FreeRows (adjacentBy N) less more r → FreeRows (adjacentBy N) rest word r
+    free-turn r c = free-step r (subst (λ (x : ℕ). FreeRows (adjacentBy N) x (both word (N k)) r) er (subst (λ (x : ℕ). FreeRows (adjacentBy N) less x r) ew c))
 
 -- ---- the free rows in ascending order
 
@@ -122,7 +121,7 @@ module _ {width : ℕ} {neighbours : List ℕ} {decided set i : ℕ} (a : Asked 
   pub kept-inside : (rest : ℕ) → rest ≡ kept N set i → Inside rest (length neighbours)
   kept-inside rest e k h = omega (arith, own k (both-l set (N i) k (rw e at h)), a .graph .rows)
 
-  module _ (free rest : ℕ) (e : rest ≡ kept N set i) (f : Free (adjacent neighbours) rest decided free) where
+  module _ (free rest : ℕ) (e : rest ≡ kept N set i) (f : FreeRows (adjacent neighbours) rest decided free) where
     -- a free row complements what is kept, and a decided row that does is free
     free-adjacent : (j : ℕ) → In free j → AdjacentToAll (adjacent neighbours) (kept N set i) j
     free-adjacent j h k p = turned k j (own k (both-l set (N i) k p)) (a .past j (f .within j h)) (f .each k j (rw e p) h)
@@ -137,7 +136,7 @@ module _ {width : ℕ} {neighbours : List ℕ} {decided set i : ℕ} (a : Asked 
     free-bits k h = omega (arith, a .past k (f .within k h), a .bits)
 
     -- a free row complements row i
-    pub told-blocked : (r : ℕ) → r ≡ both free (N i) → (r ≡ 0 → ⊥) → Told (MayTake N decided set i) false
+    pub told-blocked : (r : ℕ) → r ≡ both free (N i) → (r ≡ 0 → ⊥) → Decides (MayTake N decided set i) false
     told-blocked r er ne = record {
       yes = λ z. absurd (clash z refl);
       no = λ _ m.
@@ -147,7 +146,7 @@ module _ {width : ℕ} {neighbours : List ℕ} {decided set i : ℕ} (a : Asked 
           m .maximal (k .0) (f .within (k .0) there) (free-adjacent (k .0) there) (both-r free (N i) (k .0) p);
     }
 
-    pub told-walked : (r : ℕ) → r ≡ both free (N i) → r ≡ 0 → (b : Bool) → GrowsBack (adjacent neighbours) free set b → Told (MayTake N decided set i) b
+    pub told-walked : (r : ℕ) → r ≡ both free (N i) → r ≡ 0 → (b : Bool) → GrowsBack (adjacent neighbours) free set b → Decides (MayTake N decided set i) b
     told-walked r er z b back = record {
       yes = λ t. record {
         maximal = λ j h adjacent p. clash (both-in free (N i) j (adjacent-free j h adjacent) p) (ap (λ (x : ℕ). has x j) (sym er ∙ z) ∙ has-none j);

@@ -2,13 +2,12 @@
 use mathlib.Core.Path.{_≡_, refl, sym, ap, _∙_, subst}
 use mathlib.Core.Bool.{true, false}
 use mathlib.Core.List.{List, [], _∷_, _++_}
-use Prim.Native.Nat.{ℕ, zero, suc, _+_, _-_, _≤_, _<_}
+use Prim.Native.Nat.{ℕ, suc, _-_, _≤_, _<_}
 use native.Mathlib.Omega.{arith}
 use lib.ListN.{length, take}
 use lib.Seq.{length-take-le}
 use Rattle.bitsets.specs.Bits.{isSub, withRow, lowest, withoutLowest}
-use Rattle.cliques.specs.Graph.{adjacent, Graph}
-use Rattle.cliques.specs.Maximal.{Max}
+use Rattle.cliques.specs.Graph.{Graph}
 use Rattle.cliques.specs.Search.{rowOf, adjacentBy, taken, MayTake, Split, Run, stops, lists, joins, leaves, takes, Ran, Ready, Asked}
 use Rattle.cliques.proofs.Maximal.{Simple, Step, joined, left, took, step-max}
 use Rattle.cliques.proofs.Run.{split-row, split-new, split-next}

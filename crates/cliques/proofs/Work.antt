@@ -3,21 +3,22 @@
 use mathlib.Core.Path.{_≡_, refl, sym, ap, _∙_, subst}
 use mathlib.Core.List.{List, [], _∷_, _++_, map}
 use Prim.Native.Nat.{ℕ, zero, suc, _+_, _*_, _≤_, _<_, zero-le}
-use native.Mathlib.Nat.{suc-mul, zero-mul, mul-zero, add-mul, mul-add, mul-le-mul-left, mul-le-mul-right}
+use native.Mathlib.Nat.{suc-mul, zero-mul, add-mul, mul-add, mul-le-mul-left, mul-le-mul-right}
 use native.Mathlib.Omega.{arith}
 use lib.Dec.{ltb}
 use lib.ListN.{length, take, length-append, length-map}
 use borrow.Author.Tests.{ltb-true, ltb-false}
 use Rattle.definitions.specs.Limits.{maxSets, maxUnionRows}
 use Rattle.definitions.specs.ComplementUnion.{maximalSets}
-use Rattle.definitions.proofs.Bools.{bool-cases, clash}
-use Rattle.bitsets.specs.Bits.{butNot, either, Inside, rowsBelow, sizeBelow}
+use Rattle.definitions.proofs.Bools.{bool-cases}
+use Rattle.bitsets.specs.Bits.{butNot, either, Inside, rowsBelow, sizeBelow, wordBits}
+use Rattle.bitsets.proofs.Words.{in-word}
 use Rattle.bitsets.proofs.Bits.{but-l, below-of, below-in}
 use Rattle.bitsets.proofs.Sizes.{size-all, size-sub, size-parts, size-some, size-wide}
 use Rattle.cliques.specs.Graph.{adjacent, Graph}
 use Rattle.cliques.specs.Search.{rowOf, Run, stops, lists, joins, leaves, takes, Ready}
-use Rattle.cliques.specs.Parts.{Part, Common, Parts, ends, fills, next, Listed}
-use Rattle.cliques.proofs.Complete.{held, number}
+use Rattle.cliques.specs.Parts.{Parts, ends, fills, next, RanParts}
+use Rattle.cliques.proofs.Complete.{held, sets-counted}
 
 -- ---- a call on a list that is not full, with f rows undecided
 
@@ -189,20 +190,20 @@ module _ (N : ℕ → ℕ) (cap width n : ℕ) (fits : n ≤ width) {out : List 
       (subst (λ (k : ℕ). calls ≤ suc (sizeBelow width (rowsBelow n) * k + sizeBelow width (rowsBelow n))) sets (all .full))
 
   -- for a list that takes no more than `cap` sets, whatever the graph
-  pub calls-most : length out ≤ cap → calls ≤ suc (n * cap + n)
+  calls-most : length out ≤ cap → calls ≤ suc (n * cap + n)
   calls-most few = omega (arith, calls-bound, mul-le-mul-left n few)
 
--- at most 64 × 1,025 + 64 + 1 calls, for any graph
-pub most-calls : (N : ℕ → ℕ) (n : ℕ) {out : List ℕ} {calls : ℕ} → n ≤ maxUnionRows → Parts N (suc maxSets) maxUnionRows (rowsBelow n) [] out calls
+-- for any graph of the rows of T
+pub most-calls : (N : ℕ → ℕ) (n : ℕ) {out : List ℕ} {calls : ℕ} → n ≤ maxUnionRows → Parts N (suc maxSets) wordBits (rowsBelow n) [] out calls
     → length out ≤ suc maxSets → calls ≤ suc (maxUnionRows * suc maxSets + maxUnionRows)
-most-calls N n h p few = omega (arith, calls-most N (suc maxSets) maxUnionRows n h p few)
+most-calls N n h p few = omega (arith, calls-most N (suc maxSets) wordBits n (in-word h) p few)
 
 -- of what `list_parts` promises, where there are at most 1,024 maximal sets: at most n calls for each, and one more
 pub few-calls : (neighbours : List ℕ) (n : ℕ) (g : Graph neighbours n) (width : ℕ) (bits : n ≤ width) (list : List ℕ) (found all : ℕ) → 0 < n
-    → found ≤ length list → found ≤ suc maxSets → all ≡ rowsBelow n → (l : Listed (rowOf neighbours) (suc maxSets) width all [] (take found list))
+    → found ≤ length list → found ≤ suc maxSets → all ≡ rowsBelow n → (l : RanParts (rowOf neighbours) (suc maxSets) width all [] (take found list))
     → length (maximalSets (adjacent neighbours) n) ≤ maxSets → l .0 ≤ suc (n * length (maximalSets (adjacent neighbours) n))
 few-calls neighbours n g width bits list found all pos fits few ea l small =
-    let number = number neighbours n g width bits list found all pos fits few ea l in
+    let counted = sets-counted neighbours n g width bits list found all pos fits few ea l in
     let held = held neighbours n g width bits list found all pos fits few ea l in
     let same : length (take found list) ≡ length (maximalSets (adjacent neighbours) n) = omega arith in
     subst (λ (k : ℕ). l .0 ≤ suc (n * k)) same

@@ -1,5 +1,5 @@
 -- The rows part by part: parts that no row outside complements, the rows of a part that complement all others of it, and what it means to
--- list the sets of all parts, with the number of the search's calls.
+-- list the sets of all parts, with the count of the search's calls.
 use mathlib.Core.Path.{_≡_}
 use mathlib.Core.Bool.{Bool, true}
 use mathlib.Core.List.{List, _++_, map}
@@ -33,11 +33,11 @@ pub data Parts (N : ℕ → ℕ) (cap width : ℕ) : ℕ → List ℕ → List �
       → Run N cap (sizeBelow width (butNot part common)) 0 (butNot part common) 0 l (l ++ new) calls
       → Parts N cap width (butNot rows part) (l ++ map (λ s. either s common) new) out more → Parts N cap width rows l out (calls + more)
 
--- the sets of the rows are listed, with some number of calls
-abbrev pub Listed : (ℕ → ℕ) → ℕ → ℕ → ℕ → List ℕ → List ℕ → Type 0
-Listed N cap width rows l out = (calls : ℕ) × Parts N cap width rows l out calls
+-- the sets of the rows are listed, with some count of calls
+abbrev pub RanParts : (ℕ → ℕ) → ℕ → ℕ → ℕ → List ℕ → List ℕ → Type 0
+RanParts N cap width rows l out = (calls : ℕ) × Parts N cap width rows l out calls
 
--- a list whose elements from one place to another are changed by f
+-- a list whose elements from one index to another are changed by f
 abbrev pub changed : ℕ → ℕ → (ℕ → ℕ) → List ℕ → List ℕ
 changed from to f l = take from l ++ (map f (take (to - from) (drop from l)) ++ drop (to - from) (drop from l))
 

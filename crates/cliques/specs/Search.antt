@@ -1,5 +1,5 @@
 -- The search for the maximal sets of a part of the rows (Tsukiyama, Ide, Ariyoshi, Shirakawa 1977): when a row may be taken, and what a run
--- of the search is, with the number of its calls. `N j` is the set of the rows that complement row j. No width and no limit stands here.
+-- of the search is, with the count of its calls. `N j` is the set of the rows that complement row j. No width and no limit stands here.
 use mathlib.Core.Path.{_≡_}
 use mathlib.Core.Bool.{Bool, true, false}
 use mathlib.Core.List.{List, [], _∷_, _++_}
@@ -44,7 +44,7 @@ module _ (N : ℕ → ℕ) where
         → ((k : ℕ) → has set k ≡ true → k < j → adjacentBy N j k ≡ true) → ⊥
 
   -- A run of the search: so many undecided rows, the decided ones, the undecided ones, a set that is maximal among the decided rows, the list
-  -- before and after, and the number of calls, with the first.
+  -- before and after, and the count of calls, with the first.
   pub data Run (cap : ℕ) : ℕ → ℕ → ℕ → ℕ → List ℕ → List ℕ → ℕ → Type 0 where
     -- the list is full
     stops : {f d rest set : ℕ} {l : List ℕ} → cap ≤ length l → Run cap f d rest set l l 1
@@ -66,7 +66,7 @@ module _ (N : ℕ → ℕ) where
         → Run cap f (withRow d (lowest rest)) (withoutLowest rest) set mid out more
         → Run cap (suc f) d rest set l out (suc (calls + more))
 
--- a run with some number of calls
+-- a run with some count of calls
 abbrev pub Ran : (ℕ → ℕ) → ℕ → ℕ → ℕ → ℕ → ℕ → List ℕ → List ℕ → Type 0
 Ran N cap undecided decided rest set list out = (calls : ℕ) × Run N cap undecided decided rest set list out calls
 
@@ -90,7 +90,7 @@ pub record Asked (width : ℕ) (neighbours : List ℕ) (decided set i : ℕ) : T
   pub row : i < n
 
 -- r holds the rows of `start` that complement each row of the set
-pub record Free (adjacent : ℕ → ℕ → Bool) (set start r : ℕ) : Type 0 where
+pub record FreeRows (adjacent : ℕ → ℕ → Bool) (set start r : ℕ) : Type 0 where
   pub within : Sub r start
   pub each : (j k : ℕ) → has set j ≡ true → has r k ≡ true → adjacent j k ≡ true
   pub all : (k : ℕ) → has start k ≡ true → ((j : ℕ) → has set j ≡ true → adjacent j k ≡ true) → has r k ≡ true
@@ -110,6 +110,6 @@ pub record GrowsBack (adjacent : ℕ → ℕ → Bool) (free set : ℕ) (r : Boo
   pub no : r ≡ false → Met adjacent free set
 
 -- a test says yes where P holds, and no where it does not
-pub record Told (P : Type 0) (r : Bool) : Type 0 where
+pub record Decides (P : Type 0) (r : Bool) : Type 0 where
   pub yes : r ≡ true → P
   pub no : r ≡ false → P → ⊥

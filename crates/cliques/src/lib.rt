@@ -1,4 +1,4 @@
-// All maximal complementing sets of a graph of at most 64 rows, in set order, in bounded work. Bit k of neighbours[j] says that the
+// All maximal complementing sets of a graph of at most MAX_UNION_ROWS rows, in set order, in bounded work. Bit k of neighbours[j] says that the
 // rows j and k complement each other; a set of rows is a word whose bit k says that row k is in it.
 mod merging;
 mod ordering;
@@ -7,20 +7,26 @@ mod search;
 
 use bitsets::below;
 use bitsets::with_row;
+use definitions::MAX_SETS;
+use definitions::MAX_UNION_ROWS;
 use merging::order_sets;
 use parts::list_parts;
-pub use search::MAX_ROWS;
-pub use search::MAX_SETS;
 ghost use mathlib.Core.Path.{_≡_};
 ghost use Prim.Native.Nat.{suc, _≤_};
 ghost use lib.ListN.{length};
 ghost use Rattle.definitions.specs.Limits.{maxSets, maxUnionRows};
 ghost use Rattle.cliques.specs.Graph.{Graph, AllSets};
 
-// Lists the maximal sets of the first n rows, and gives their number: of more than 1,024 it gives 1,025, and what the list holds is open.
-pub fn find_sets(neighbours: &[u64; MAX_ROWS], n: usize, list: &mut [u64; MAX_SETS + 1]) -> usize
+// Lists the maximal sets of the first n rows, and gives their count: of more than MAX_SETS it gives one more than that, and what the
+// list holds is open.
+pub fn find_sets(
+    neighbours: &[u64; MAX_UNION_ROWS],
+    n: usize,
+    list: &mut [u64; MAX_SETS + 1],
+) -> usize
     requires { ⌜ Graph (now neighbours) n × (n ≤ maxUnionRows) × (suc maxSets ≤ length (now list)) ⌝ }
-    ensures { λ r. ⌜ (length (now (list .exit)) ≡ length (now (list .entry))) × AllSets (now (neighbours .entry)) n (now (list .exit)) r ⌝ }
+    ensures { λ r. ⌜ (length (now (list .exit)) ≡ length (now (list .entry)))
+        × AllSets (now (neighbours .entry)) n (now (list .exit)) r ⌝ }
 {
     if n == 0 {
         return 0;

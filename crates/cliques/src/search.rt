@@ -6,25 +6,21 @@ use bitsets::lowest_row;
 use bitsets::meet;
 use bitsets::with_row;
 use bitsets::without_lowest;
+use definitions::MAX_SETS;
+use definitions::MAX_UNION_ROWS;
 ghost use mathlib.Core.Path.{_≡_};
 ghost use Prim.Native.Nat.{suc, _≤_, _<_};
 ghost use lib.ListN.{length, take};
-ghost use Rattle.definitions.specs.Limits.{maxSets, maxUnionRows};
-ghost use Rattle.bitsets.specs.Bits.{Inside};
+ghost use Rattle.definitions.specs.Limits.{maxSets};
+ghost use Rattle.bitsets.specs.Bits.{Inside, wordBits};
 ghost use Rattle.cliques.specs.Graph.{adjacent};
 ghost use Rattle.cliques.specs.Maximal.{Clique};
-ghost use Rattle.cliques.specs.Search.{rowOf, taken, MayTake, Ran, Ready, Asked, Free, GrowsBack, Told};
-
-// As many rows as a graph may have.
-pub const MAX_ROWS: usize = 64;
-
-// As many sets as are listed; one more is found, and ends the search.
-pub const MAX_SETS: usize = 1024;
+ghost use Rattle.cliques.specs.Search.{rowOf, taken, MayTake, Ran, Ready, Asked, FreeRows, GrowsBack, Decides};
 
 // The rows of `start` that complement each row of the set.
 fn free_rows(neighbours: &[u64], set: u64, start: u64) -> u64
     requires { ⌜ Inside set (length (now neighbours)) ⌝ }
-    ensures { λ r. ⌜ Free (adjacent (now (neighbours .entry))) set start r ⌝ }
+    ensures { λ r. ⌜ FreeRows (adjacent (now (neighbours .entry))) set start r ⌝ }
 {
     let mut rest = set;
     let mut word = start;
@@ -37,7 +33,8 @@ fn free_rows(neighbours: &[u64], set: u64, start: u64) -> u64
 
 // Is what the free rows give, each taken in ascending order where it complements those before it, of the set alone?
 fn grows_back(neighbours: &[u64], free: u64, set: u64) -> bool
-    requires { ⌜ Inside free (length (now neighbours)) × Inside free maxUnionRows × Clique (adjacent (now neighbours)) set ⌝ }
+    requires { ⌜ Inside free (length (now neighbours)) × Inside free wordBits
+        × Clique (adjacent (now neighbours)) set ⌝ }
     ensures { λ r. ⌜ GrowsBack (adjacent (now (neighbours .entry))) free set r ⌝ }
 {
     let mut rest = free;
@@ -53,8 +50,8 @@ fn grows_back(neighbours: &[u64], free: u64, set: u64) -> bool
 
 // May row i be taken? What that makes has to be maximal, and the set the first of those that it comes from.
 fn may_take(neighbours: &[u64], decided: u64, set: u64, i: usize) -> bool
-    requires { ⌜ Asked maxUnionRows (now neighbours) decided set i ⌝ }
-    ensures { λ r. ⌜ Told (MayTake (rowOf (now (neighbours .entry))) decided set i) r ⌝ }
+    requires { ⌜ Asked wordBits (now neighbours) decided set i ⌝ }
+    ensures { λ r. ⌜ Decides (MayTake (rowOf (now (neighbours .entry))) decided set i) r ⌝ }
 {
     let adjacent = neighbours[i];
     let free = free_rows(neighbours, meet(set, adjacent), decided);
@@ -66,16 +63,16 @@ fn may_take(neighbours: &[u64], decided: u64, set: u64, i: usize) -> bool
 
 // What row i leaves of the set, and the row.
 fn take_row(neighbours: &[u64], set: u64, i: usize) -> u64
-    requires { ⌜ (i < length (now neighbours)) × (i < maxUnionRows) ⌝ }
+    requires { ⌜ (i < length (now neighbours)) × (i < wordBits) ⌝ }
     ensures { λ r. ⌜ r ≡ taken (rowOf (now (neighbours .entry))) set i ⌝ }
 {
     with_row(meet(set, neighbours[i]), i)
 }
 
 // The set is maximal among the decided rows, and `undecided` rows, the rest, are to be decided. Takes the first of them or leaves it, and lists
-// each maximal set of all these rows that grows out of the set, as it finds them. Gives the grown count: it stays from the 1,025th set on.
+// each maximal set of all these rows that grows out of the set, as it finds them. Gives the grown count: it stays once there is one set more than MAX_SETS.
 pub(crate) fn search(
-    neighbours: &[u64; MAX_ROWS],
+    neighbours: &[u64; MAX_UNION_ROWS],
     decided: u64,
     rest: u64,
     undecided: usize,
@@ -83,8 +80,9 @@ pub(crate) fn search(
     list: &mut [u64; MAX_SETS + 1],
     count: usize,
 ) -> usize
-    requires { ⌜ Ready maxUnionRows (suc maxSets) (now neighbours) decided rest undecided set (now list) count ⌝ }
-    ensures { λ r. ⌜ (r ≤ suc maxSets) × (length (now (list .exit)) ≡ length (now (list .entry))) × Ran (rowOf (now (neighbours .entry))) (suc maxSets) undecided decided rest set
+    requires { ⌜ Ready wordBits (suc maxSets) (now neighbours) decided rest undecided set (now list) count ⌝ }
+    ensures { λ r. ⌜ (r ≤ suc maxSets) × (length (now (list .exit)) ≡ length (now (list .entry)))
+        × Ran (rowOf (now (neighbours .entry))) (suc maxSets) undecided decided rest set
         (take count (now (list .entry))) (take r (now (list .exit))) ⌝ }
 {
     if MAX_SETS < count {

@@ -3,29 +3,22 @@ ghost use mathlib.Core.Path.{_≡_};
 ghost use mathlib.Core.Bool.{true};
 ghost use Prim.Native.Nat.{_<_, _≤_};
 ghost use lib.ListN.{length};
-ghost use Rattle.bitsets.specs.Bits.{has};
+ghost use Rattle.bitsets.specs.Bits.{wordBits};
 ghost use Rattle.cliques.specs.Graph.{Graph};
 ghost use Rattle.cliques_runs.specs.Mirrored.{Mirrored};
-
-// Does word w say that its row and row k complement each other?
-fn says(w: u64, k: usize) -> bool
-    requires { ⌜ k < 64 ⌝ }
-    ensures { λ r. ⌜ r ≡ has w k ⌝ }
-{
-    (w >> k) % 2 == 1
-}
+use bitsets::has_row;
 
 // Does row j say of the n rows what they say of it, and does it not complement itself?
 fn is_mirrored(neighbours: &[u64], n: usize, j: usize) -> bool
-    requires { ⌜ (j < n) × (n ≤ length (now neighbours)) × (n ≤ 64) ⌝ }
+    requires { ⌜ (j < n) × (n ≤ length (now neighbours)) × (n ≤ wordBits) ⌝ }
     ensures { λ r. ⌜ (r ≡ true → Mirrored (now (neighbours .entry)) n j) ⌝ }
 {
-    if says(neighbours[j], j) {
+    if has_row(neighbours[j], j) {
         return false;
     }
     let mut k: usize = 0;
     while k < n {
-        if says(neighbours[j], k) != says(neighbours[k], j) {
+        if has_row(neighbours[j], k) != has_row(neighbours[k], j) {
             return false;
         }
         k += 1;
@@ -35,7 +28,7 @@ fn is_mirrored(neighbours: &[u64], n: usize, j: usize) -> bool
 
 // Are the n rows a graph?
 pub fn is_graph(neighbours: &[u64], n: usize) -> bool
-    requires { ⌜ (n ≤ length (now neighbours)) × (n ≤ 64) ⌝ }
+    requires { ⌜ (n ≤ length (now neighbours)) × (n ≤ wordBits) ⌝ }
     ensures { λ r. ⌜ (r ≡ true → Graph (now (neighbours .entry)) n) ⌝ }
 {
     let mut j: usize = 0;

@@ -1,6 +1,9 @@
 // The graphs that are searched.
 ghost use Prim.Native.Nat.{_≤_};
 ghost use lib.ListN.{length};
+ghost use Rattle.bitsets.specs.Bits.{wordBits};
+use bitsets::with_row;
+use definitions::MAX_ROWS;
 
 pub enum Shape {
     // No two rows complement each other.
@@ -15,7 +18,7 @@ pub enum Shape {
     Pairs,
     // The same of the first 20 rows, and row 20 complements none.
     PairsAndOne,
-    // Of each of 32 devices the board's row, then of each the plant's. The board's rows complement each other and the plant's rows of
+    // Of each of MAX_ROWS devices the board's row, then of each the plant's. The board's rows complement each other and the plant's rows of
     // other devices; the plant's rows are told apart by their first column, and each subsumes the board's row of its device.
     Devices,
     // Rows do unless their bits together leave a rest of 1, or of 5, in the division by 11.
@@ -25,7 +28,7 @@ pub enum Shape {
     CommonLast,
     // The same with the rows below 44, and groups of four behind them.
     CommonFirst,
-    // A row below 32 and one from 32 on do.
+    // A row below MAX_ROWS and one from there on do.
     TwoGroups,
     // Rows that follow each other in a part of four rows do.
     Parts,
@@ -57,7 +60,7 @@ fn beside(shape: Shape, j: usize, k: usize) -> bool {
         } else {
             if k < 44 { true } else { j / 4 != k / 4 }
         },
-        Shape::TwoGroups => (j < 32) != (k < 32),
+        Shape::TwoGroups => (j < MAX_ROWS) != (k < MAX_ROWS),
         Shape::Parts => if j / 4 == k / 4 {
             if j < k { k - j == 1 } else { j - k == 1 }
         } else {
@@ -67,23 +70,31 @@ fn beside(shape: Shape, j: usize, k: usize) -> bool {
 }
 
 fn devices(j: usize, k: usize) -> bool {
-    if j < 32 {
-        if k < 32 { true } else { k - 32 != j }
+    if j < MAX_ROWS {
+        if k < MAX_ROWS {
+            true
+        } else {
+            k - MAX_ROWS != j
+        }
     } else {
-        if k < 32 { j - 32 != k } else { false }
+        if k < MAX_ROWS {
+            j - MAX_ROWS != k
+        } else {
+            false
+        }
     }
 }
 
 // The rows below n that complement row j.
 fn word(shape: Shape, n: usize, j: usize) -> u64
-    requires { ⌜ n ≤ 64 ⌝ }
+    requires { ⌜ n ≤ wordBits ⌝ }
 {
     let mut w: u64 = 0;
     let mut k: usize = 0;
     while k < n {
         if k != j {
             if beside(shape, j, k) {
-                w = w | (1u64 << k);
+                w = with_row(w, k);
             }
         }
         k += 1;
@@ -93,7 +104,7 @@ fn word(shape: Shape, n: usize, j: usize) -> u64
 
 // Writes the graph of n rows.
 pub fn build(shape: Shape, n: usize, neighbours: &mut [u64])
-    requires { ⌜ (n ≤ length (now neighbours)) × (n ≤ 64) ⌝ }
+    requires { ⌜ (n ≤ length (now neighbours)) × (n ≤ wordBits) ⌝ }
 {
     let mut j: usize = 0;
     while j < n {

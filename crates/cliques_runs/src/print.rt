@@ -1,6 +1,8 @@
 // Sets as lines of positions.
 ghost use Prim.Native.Nat.{_≤_};
 ghost use lib.ListN.{length};
+use bitsets::WORD_BITS;
+use bitsets::has_row;
 
 // A position, after a space.
 fn position(k: usize) {
@@ -15,8 +17,8 @@ fn end_line() {
 // The positions of a set.
 fn set(w: u64) {
     let mut k: usize = 0;
-    while k < 64 {
-        if (w >> k) % 2 == 1 {
+    while k < WORD_BITS {
+        if has_row(w, k) {
             position(k);
         }
         k += 1;

@@ -155,7 +155,7 @@ module _ (row columns : List ℕ) where
     passed-turn filled empty more fits ef ee inv rows seen k h =
         let x = getD row i 0 in
         let small : k < wordBits = omega (arith, seen .few) in
-        let column : filled ≡ filledIn rows i = ef ∙ seen .filled .marks i more in
+        let column : filled ≡ filledIn rows i = ef ∙ seen .filled .words i more in
         let fe : empty < 2 ^ wordBits = rw ee (blank-fits x) in
         passed-more row (getD rows k []) k (sym (seen .wide k h)) small i shared above within (inv rows seen k h) filled empty more fits fe
         (ap (λ (w : ℕ). has w k) column ∙ filled-has rows i k h)

@@ -10,7 +10,7 @@ use Rattle.lists.proofs.Flat.{rows-length, row-fits}
 use Rattle.bitsets.specs.Bits.{has}
 use Rattle.patterns.specs.Columns.{ColumnsOf}
 use Rattle.patterns.proofs.FilledRows.{filled-within}
-use Rattle.rows.specs.Numbers.{rowAt}
+use Rattle.rows.specs.Indices.{rowAt}
 use Rattle.fusing.specs.Columns.{AllReach}
 
 -- the cell i of the row k
@@ -19,5 +19,5 @@ cell-at c k i w h = getD-take c (drop (k * c) w) i 0 h ∙ getD-drop (k * c) w i
 
 pub columns-within : (c n : ℕ) (w columns : List ℕ) → n * c ≤ length w → ColumnsOf (rowsIn c n w) c columns → AllReach c columns w
 columns-within c n w columns fits o i h k g =
-    let l : k < n = omega (arith, filled-within (rowsIn c n w) i k (ap (λ (x : ℕ). has x k) (sym (o .marks i h)) ∙ g), rows-length c n w) in
+    let l : k < n = omega (arith, filled-within (rowsIn c n w) i k (ap (λ (x : ℕ). has x k) (sym (o .words i h)) ∙ g), rows-length c n w) in
     omega (arith, row-fits c n k l)

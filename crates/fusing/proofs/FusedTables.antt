@@ -15,8 +15,8 @@ use Rattle.definitions.specs.ComplementUnion.{sameRow, joined, maximalSets, uni
 use Rattle.definitions.specs.SetList.{bits, fusedPosition}
 use Rattle.lists.proofs.Flat.{rows-length}
 use Rattle.cliques.specs.Graph.{adjacent, Graph, AllSets}
-use Rattle.rows.specs.Numbers.{rowsAt, Ordered}
-use Rattle.rows.proofs.Numbers.{below-fit}
+use Rattle.rows.specs.Indices.{rowsAt, Ordered}
+use Rattle.rows.proofs.Indices.{below-fit}
 use Rattle.fusing.specs.Fused.{SetsOf, joinedRows, FusedOf}
 use Rattle.fusing.specs.Graph.{GraphOf}
 use Rattle.fusing.specs.Positions.{positionsIn}

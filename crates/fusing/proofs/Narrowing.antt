@@ -131,7 +131,7 @@ module _ (c n : ℕ) (w columns found : List ℕ) (few : n ≤ maxUnionRows) (fi
     cell-is k h = sym (ap (λ (r : List ℕ). getD r i 0) (rows-at c n k w (below k h)) ∙ cell-at c k i w more)
 
     held-is : (k : ℕ) → k < length rows → has filled k ≡ isFilled (cell k)
-    held-is k h = ap (λ (x : ℕ). has x k) (column ∙ o .marks i more) ∙ filled-has rows i k h
+    held-is k h = ap (λ (x : ℕ). has x k) (column ∙ o .words i more) ∙ filled-has rows i k h
 
     adjacent-turn : (j k : ℕ) → j < length rows → k < length rows → adjacent new j k ≡ (adjacent now j k && cellsAgree (cell j) (cell k))
     adjacent-turn j k h l =

@@ -154,5 +154,5 @@ module _ (c n : ℕ) (w columns : List ℕ) (fits : n * c ≤ length w) (o : Col
       (λ i h.
       let l : i < c = omega arith in
       picks-at c w (bits s) columns i (o .size) l
-      ∙ ap (λ (x : ℕ). pickCell c w i (bitAnd (bits s) x)) (o .marks i l)
+      ∙ ap (λ (x : ℕ). pickCell c w i (bitAnd (bits s) x)) (o .words i l)
       ∙ pick-held i l)

@@ -20,9 +20,9 @@ use Rattle.definitions.proofs.Orders.{rows}
 use Rattle.definitions.proofs.Rows.{same-is}
 use Rattle.lists.proofs.Flat.{rows-length, rows-at}
 use Rattle.lists.proofs.Pastes.{Pasted, paste-turn}
-use Rattle.rows.specs.Numbers.{rowAt, rowsAt, Below, Listed, Ordered}
-use Rattle.rows.proofs.Numbers.{below-at}
-use Rattle.rows.proofs.Places.{ordered-listed, ordered-member}
+use Rattle.rows.specs.Indices.{rowAt, rowsAt, Below, AscendingIndices, Ordered}
+use Rattle.rows.proofs.Indices.{below-at}
+use Rattle.rows.proofs.Positions.{ordered-ascending, ordered-member}
 use Rattle.fusing.specs.Positions.{positionsIn, Cleared, OwnPositions}
 use Rattle.fusing.proofs.Lists.{paste-rest}
 use Rattle.patterns.proofs.Parts.{part-is, part-length}
@@ -100,15 +100,15 @@ module _ (c n : ℕ) (w l : List ℕ) (fits : n * c ≤ length w) (o : Ordered c
       sym
       (position-is i more
       ∙ ap (λ (s : List ℕ). findIndex (sameRow s) (rowsAt c w l)) (sym same)
-      ∙ findIndex-strict rows sameRow same-is (rowAt c w 0) (rowsAt c w l) p (ordered-listed c n w l o fits .strict) (omega (arith, length-map l (rowAt c w))))
+      ∙ findIndex-strict rows sameRow same-is (rowAt c w 0) (rowsAt c w l) p (ordered-ascending c n w l o fits .strict) (omega (arith, length-map l (rowAt c w))))
 
   -- the row i
   module _ (i at : ℕ) (more : i < n) (here : at ≡ i * c) where
     abbrev part : List ℕ
     part = take (at + c - at) (drop at w)
 
-    pub position-listed : Listed (length part) w l
-    position-listed = subst (λ (k : ℕ). Listed k w l) (sym (part-length c n i w fits more at here)) (ordered-listed c n w l o fits)
+    pub position-listed : AscendingIndices (length part) w l
+    position-listed = subst (λ (k : ℕ). AscendingIndices k w l) (sym (part-length c n i w fits more at here)) (ordered-ascending c n w l o fits)
 
     pub position-member : Member part (rowsAt (length part) w l)
     position-member =

@@ -8,7 +8,7 @@ use Rattle.definitions.specs.Limits.{maxUnionRows, maxSets}
 use Rattle.definitions.specs.Image.{rowsIn}
 use Rattle.definitions.specs.ComplementUnion.{joined, unionSets, fusedRows}
 use Rattle.definitions.specs.SetList.{bits, fusedPosition}
-use Rattle.rows.specs.Numbers.{rowsAt, Fit}
+use Rattle.rows.specs.Indices.{rowsAt, Fit}
 use Rattle.patterns.specs.Columns.{ColumnsOf}
 
 -- n rows of so many cells, and for each column the word that holds those filled there

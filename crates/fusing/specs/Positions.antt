@@ -6,7 +6,7 @@ use lib.ListN.{length, getD, take, drop}
 use Rattle.definitions.specs.Limits.{maxSets}
 use Rattle.definitions.specs.Lists.{findIndex}
 use Rattle.definitions.specs.ComplementUnion.{sameRow}
-use Rattle.rows.specs.Numbers.{Ordered}
+use Rattle.rows.specs.Indices.{Ordered}
 
 -- the positions of rows in a table
 unfoldable pub positionsIn : List (List ℕ) → List (List ℕ) → List ℕ

@@ -5,9 +5,9 @@ ghost use Prim.Native.Nat.{_≤_};
 ghost use lib.ListN.{length, take, drop};
 ghost use Rattle.definitions.specs.Limits.{maxSets};
 ghost use Rattle.definitions.specs.Image.{rowsIn};
-ghost use Rattle.rows.specs.Numbers.{rowsAt, Below};
+ghost use Rattle.rows.specs.Indices.{rowsAt, Below};
 ghost use Rattle.fusing.specs.Positions.{positionsIn, Cleared, OwnPositions, DistinctRows};
-use rows::place_of;
+use rows::position_of;
 
 // Writes m, which is no position, for each of the first count rows.
 fn clear_positions(m: usize, count: usize, positions: &mut [u32])
@@ -55,7 +55,7 @@ pub(crate) fn find_positions(
     while k < count {
         let next = at + width;
         if positions[k] as usize == m {
-            positions[k] = place_of(cells, order, m, &cells[at..next]) as u32;
+            positions[k] = position_of(cells, order, m, &cells[at..next]) as u32;
             at = next;
             k += 1;
         } else {

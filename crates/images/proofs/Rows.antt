@@ -14,7 +14,7 @@ use Rattle.definitions.specs.MinimumUnion.{filled}
 use Rattle.definitions.specs.Answer.{done}
 use Rattle.definitions.proofs.Outcomes.{asked-no, asked-yes}
 use Rattle.lists.proofs.Walks.{part-tail}
-use Rattle.rows.specs.Numbers.{rowAt, rowsAt}
+use Rattle.rows.specs.Indices.{rowAt, rowsAt}
 use Rattle.rows.proofs.Writing.{row-words-length, rows-stand}
 use Rattle.images.specs.Writing.{Writable, WrittenImage, PutImage}
 use Rattle.images.proofs.Writing.{image-written}

@@ -9,7 +9,7 @@ use Rattle.definitions.specs.MinimumUnion.{filled}
 use Rattle.definitions.specs.Answer.{done, unless}
 use Rattle.definitions.specs.Calls.{tableRoom}
 use Rattle.definitions.specs.Promise.{TablePromise}
-use Rattle.rows.specs.Numbers.{rowsAt, Fit}
+use Rattle.rows.specs.Indices.{rowsAt, Fit}
 use Rattle.images.specs.declared.write.Put.{Put}
 
 -- n ids, and m indices of rows of n cells, that an image can hold

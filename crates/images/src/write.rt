@@ -5,7 +5,7 @@ ghost use Prim.Native.Nat.{ℕ, _+_, _*_, _≤_, _<_, _^_};
 ghost use lib.ListN.{length, getD, take};
 ghost use lib.Seq.{paste};
 ghost use Rattle.definitions.specs.Word.{headerWord, columnWord};
-ghost use Rattle.rows.specs.Numbers.{rowsAt};
+ghost use Rattle.rows.specs.Indices.{rowsAt};
 ghost use Rattle.images.specs.Writing.{Writable, WrittenImage, PutImage};
 
 // Writes the column words of the first n ids, from word 1 of the buffer.

@@ -1,4 +1,4 @@
--- The counts of filled cells, written row after row, and the rows with a larger count, number after number. Assumes nothing.
+-- The counts of filled cells, written row after row, and the rows with a larger count, count after count. Assumes nothing.
 use mathlib.Core.Path.{_≡_, refl, sym, _∙_, ap, subst}
 use mathlib.Core.Bool.{true}
 use mathlib.Core.Logic.{⊎-elim}
@@ -12,7 +12,7 @@ use lib.Dec.{eqb}
 use lib.ListN.{length, getD, set, take, drop, length-map, length-set, length-take, List·getD-map}
 use lib.Seq.{getD-set-same, getD-set-other}
 use borrow.Author.Tests.{eqb-true, eqb-false}
-use Rattle.definitions.specs.Limits.{maxColumns, maxUnionRows}
+use Rattle.definitions.specs.Limits.{maxColumns}
 use Rattle.definitions.specs.Image.{rowsIn}
 use Rattle.definitions.specs.MinimumUnion.{filled}
 use Rattle.definitions.proofs.Bools.{bool-cases, clash, or-cases}
@@ -20,7 +20,7 @@ use Rattle.definitions.proofs.Lists.{below-cases}
 use Rattle.definitions.proofs.Subsumption.{filled-empties}
 use Rattle.lists.proofs.Flat.{rows-length, rows-at, part-row}
 use Rattle.lists.proofs.Pastes.{Pasted, paste-turn, paste-all, paste-front}
-use Rattle.bitsets.specs.Bits.{has, withRow}
+use Rattle.bitsets.specs.Bits.{has, withRow, wordBits}
 use Rattle.bitsets.proofs.Bits.{bit-at, has-or, has-none, has-with-self, has-with-old, has-with-cases, or-in-l, or-in-r}
 use Rattle.minimum.specs.Candidates.{EqualTo, FullerThan}
 
@@ -77,19 +77,19 @@ module _ (counts : List ℕ) where
   }
 
   -- one row more: its bit goes into the word of its count
-  module _ (words : List ℕ) (n : ℕ) (few : n < maxUnionRows) (there : getD counts n 0 < length words) (inv : EqualTo counts n words) where
+  module _ (words : List ℕ) (n : ℕ) (few : n < wordBits) (there : getD counts n 0 < length words) (inv : EqualTo counts n words) where
     abbrev own : ℕ
     own = getD counts n 0
 
     abbrev word : ℕ
-    word = bitOr (getD words own 0) ((1 * 2 ^ n) % 2 ^ 64)
+    word = bitOr (getD words own 0) ((1 * 2 ^ n) % 2 ^ wordBits)
 
     abbrev new : List ℕ
     new = set words own word
 
     word-is : word ≡ withRow (getD words own 0) n
     unfolding withRow
-    word-is = ap (bitOr (getD words own 0)) (bit-at 64 n few)
+    word-is = ap (bitOr (getD words own 0)) (bit-at wordBits n few)
 
     own-is : (j : ℕ) → has (getD new own 0) j ≡ has (withRow (getD words own 0) n) j
     own-is j = ap (λ (x : ℕ). has x j) (getD-set-same words own word 0 there ∙ word-is)
@@ -127,16 +127,16 @@ module _ (counts : List ℕ) where
       only = new-only;
     }
 
--- ---- the rows with a larger count, from the largest number down
+-- ---- the rows with a larger count, from the largest down
 
--- the words from number k on hold the rows with a larger count, those below it the rows with their own, and `fuller` those with count k or more
+-- the words from k on hold the rows with a larger count, those below it the rows with their own, and `fuller` those with count k or more
 pub record FullerFrom (counts found : List ℕ) (k fuller : ℕ) (words : List ℕ) : Type 0 where
   pub size : length words ≡ length found
   pub left : (i : ℕ) → i < k → getD words i 0 ≡ getD found i 0
   pub held : (i j : ℕ) → k ≤ i → j < length counts → i < getD counts j 0 → has (getD words i 0) j ≡ true
   pub only : (i j : ℕ) → k ≤ i → has (getD words i 0) j ≡ true → (j < length counts) × (i < getD counts j 0)
   pub above : (j : ℕ) → j < length counts → k ≤ getD counts j 0 → has fuller j ≡ true
-  pub above-only : (j : ℕ) → has fuller j ≡ true → (j < length counts) × (k ≤ getD counts j 0)
+  above-only : (j : ℕ) → has fuller j ≡ true → (j < length counts) × (k ≤ getD counts j 0)
 
 module _ (counts found : List ℕ) (small : (j : ℕ) → getD counts j 0 < length found) (equal : EqualTo counts (length counts) found) where
   past : (i j : ℕ) → length found ≤ i → has (getD found i 0) j ≡ true → ⊥
@@ -171,7 +171,7 @@ module _ (counts found : List ℕ) (small : (j : ℕ) → getD counts j 0 < leng
     other : (i : ℕ) → (i ≡ at → ⊥) → getD next i 0 ≡ getD words i 0
     other i d = getD-set-other words at i fuller 0 d
 
-    -- the number itself, or a larger one
+    -- the count itself, or a larger one
     from : {A : Type 0} (i : ℕ) → at ≤ i → (i ≡ at → A) → (k ≤ i → A) → A
     from i h f g = bool-cases (eqb i at) (λ e. f (eqb-true i at e)) (λ e. let d = eqb-false i at e in g (omega arith))
 

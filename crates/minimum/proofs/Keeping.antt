@@ -1,4 +1,4 @@
--- The rows that stay, row after row: their numbers and the pairs tried, for the first k rows. Assumes nothing.
+-- The rows that stay, row after row: their indices and the pairs tried, for the first k rows. Assumes nothing.
 use mathlib.Core.Path.{_≡_, refl, sym, _∙_, ap, ap₂}
 use mathlib.Core.Bool.{Bool, true, false, not}
 use mathlib.Core.List.{List, [], _∷_, _++_, map-append}
@@ -13,7 +13,7 @@ use Rattle.definitions.specs.Image.{rowsIn}
 use Rattle.definitions.specs.MinimumUnion.{subsumes, minimumRows, pairsTried}
 use Rattle.definitions.proofs.Lists.{keep-took, filter-left}
 use Rattle.lists.proofs.Flat.{rows-length, rows-at}
-use Rattle.rows.specs.Numbers.{rowAt, rowsAt, Below}
+use Rattle.rows.specs.Indices.{rowAt, rowsAt, Below}
 use Rattle.minimum.specs.Trying.{triesAt, TriedRow, KeptRows}
 
 below-snoc : (n x : ℕ) (l : List ℕ) → Below n l → x < n → Below n (l ++ (x ∷ []))
@@ -24,19 +24,19 @@ below-snoc n x (i ∷ l) b h = (b .0, below-snoc n x l (b .1) h)
 abbrev stays : List (List ℕ) → List ℕ → Bool
 stays rows t = not (any (λ s. subsumes s t) rows)
 
--- of the first k rows, those that stay are named by the first m numbers, and so many pairs were tried
-pub record KeptTo (c n : ℕ) (w numbers : List ℕ) (m pairs k : ℕ) : Type 0 where
+-- of the first k rows, those that stay are named by the first m indices, and so many pairs were tried
+pub record KeptTo (c n : ℕ) (w indices : List ℕ) (m pairs k : ℕ) : Type 0 where
   pub count : m ≤ k
-  pub below : Below n (take m numbers)
-  pub rows : rowsAt c w (take m numbers) ≡ filter (stays (rowsIn c n w)) (take k (rowsIn c n w))
+  pub below : Below n (take m indices)
+  pub rows : rowsAt c w (take m indices) ≡ filter (stays (rowsIn c n w)) (take k (rowsIn c n w))
   pub tried : pairs ≡ sumBelow k (triesAt (rowsIn c n w))
   pub bound : pairs ≤ k * maxUnionRows
 
-pub kept-none : (c n : ℕ) (w numbers : List ℕ) → KeptTo c n w numbers 0 0 0
+pub kept-none : (c n : ℕ) (w indices : List ℕ) → KeptTo c n w indices 0 0 0
 unfolding filter sumBelow
-kept-none c n w numbers = record { count = omega arith; below = tt; rows = refl; tried = refl; bound = omega arith }
+kept-none c n w indices = record { count = omega arith; below = tt; rows = refl; tried = refl; bound = omega arith }
 
-module _ {c n : ℕ} {w numbers : List ℕ} {m pairs k : ℕ} (inv : KeptTo c n w numbers m pairs k) where
+module _ {c n : ℕ} {w indices : List ℕ} {m pairs k : ℕ} (inv : KeptTo c n w indices m pairs k) where
   -- row k has been tried
   module _ (few : n ≤ maxUnionRows) (more : k < n) {subsumed : Bool} {p : ℕ} (told : TriedRow (rowsIn c n w) k subsumed p) where
     fewer : p < n
@@ -52,7 +52,7 @@ module _ {c n : ℕ} {w numbers : List ℕ} {m pairs k : ℕ} (inv : KeptTo c n 
     within : k < length (rowsIn c n w)
     within = omega (arith, rows-length c n w)
 
-    pub subsumed-left : subsumed ≡ true → KeptTo c n w numbers m (pairs + p) (k + 1)
+    pub subsumed-left : subsumed ≡ true → KeptTo c n w indices m (pairs + p) (k + 1)
     subsumed-left s = record {
       count = omega (arith, inv .count);
       below = inv .below;
@@ -61,15 +61,15 @@ module _ {c n : ℕ} {w numbers : List ℕ} {m pairs k : ℕ} (inv : KeptTo c n 
       bound = bound-more;
     }
 
-    pub unsubsumed-kept : n ≤ length numbers → subsumed ≡ false → KeptTo c n w (set numbers m k) (m + 1) (pairs + p) (k + 1)
+    pub unsubsumed-kept : n ≤ length indices → subsumed ≡ false → KeptTo c n w (set indices m k) (m + 1) (pairs + p) (k + 1)
     unsubsumed-kept room s =
         let f = inv .count in
-        let t : take (m + 1) (set numbers m k) ≡ take m numbers ++ (k ∷ []) = rw (add-one m) (take-suc-set numbers m k (omega arith)) in
+        let t : take (m + 1) (set indices m k) ≡ take m indices ++ (k ∷ []) = rw (add-one m) (take-suc-set indices m k (omega arith)) in
         record {
           count = omega arith;
-          below = rw t (below-snoc n k (take m numbers) (inv .below) more);
+          below = rw t (below-snoc n k (take m indices) (inv .below) more);
           rows = ap (rowsAt c w) t
-              ∙ map-append (rowAt c w) (take m numbers) (k ∷ [])
+              ∙ map-append (rowAt c w) (take m indices) (k ∷ [])
               ∙ ap₂ (λ (r : List (List ℕ)) (l : List ℕ). r ++ (l ∷ [])) (inv .rows) (sym (rows-at c n k w more))
               ∙ sym (keep-took (stays (rowsIn c n w)) [] (rowsIn c n w) k within (ap not (sym (told .found) ∙ s)));
           tried = sum-more;
@@ -77,7 +77,7 @@ module _ {c n : ℕ} {w numbers : List ℕ} {m pairs k : ℕ} (inv : KeptTo c n 
         }
 
   -- all rows have been tried
-  pub kept-rows : k ≡ n → KeptRows c n w numbers m pairs
+  pub kept-rows : k ≡ n → KeptRows c n w indices m pairs
   unfolding minimumRows pairsTried
   kept-rows all = record {
     count = omega (arith, inv .count);

@@ -14,7 +14,7 @@ use Rattle.definitions.specs.MinimumUnion.{subsumes, tries}
 use Rattle.definitions.proofs.Bools.{bool-cases}
 use Rattle.definitions.proofs.Counts.{without-length}
 
--- ---- a list without what stands at place k
+-- ---- a list without what stands at index k
 
 module _ {A : Type 0} (d : A) (k : ℕ) (l : List A) (within : k < length l) where
   front-length : length (take k l) ≡ k
@@ -36,15 +36,15 @@ module _ {A : Type 0} (d : A) (k : ℕ) (l : List A) (within : k < length l) whe
 
 module _ (t : List ℕ) where
   -- no row before j subsumes t
-  abbrev pub Passed : List (List ℕ) → ℕ → Type 0
-  Passed rows j = (i : ℕ) → i < j → subsumes (getD rows i []) t ≡ false
+  abbrev pub NoneBefore : List (List ℕ) → ℕ → Type 0
+  NoneBefore rows j = (i : ℕ) → i < j → subsumes (getD rows i []) t ≡ false
 
-  tries-all : (rows : List (List ℕ)) → Passed rows (length rows) → tries t rows ≡ length rows
+  tries-all : (rows : List (List ℕ)) → NoneBefore rows (length rows) → tries t rows ≡ length rows
   unfolding tries
   tries-all [] p = refl
   tries-all (s ∷ rows) p = rw (p 0 (omega arith)) (ap suc (tries-all rows (λ i h. p (suc i) (omega arith))))
 
-  tries-to : (rows : List (List ℕ)) (j : ℕ) → Passed rows j → j < length rows → subsumes (getD rows j []) t ≡ true → tries t rows ≡ suc j
+  tries-to : (rows : List (List ℕ)) (j : ℕ) → NoneBefore rows j → j < length rows → subsumes (getD rows j []) t ≡ true → tries t rows ≡ suc j
   unfolding tries
   tries-to [] j p h e = absurd (not-suc-le-zero h)
   tries-to (s ∷ rows) zero p h e = rw e
@@ -59,19 +59,19 @@ module _ (t : List ℕ) where
     after : (i : ℕ) → k ≤ i → subsumes (getD (without k rows) i []) t ≡ subsumes (getD rows (suc i) []) t
     after i h = ap (λ (s : List ℕ). subsumes s t) (without-after [] k rows within i h)
 
-    passed-others : (j : ℕ) → Passed rows (suc j) → Passed (without k rows) j
+    passed-others : (j : ℕ) → NoneBefore rows (suc j) → NoneBefore (without k rows) j
     passed-others j p i g =
         bool-cases (ltb i k)
         (λ e. before i (ltb-true i k e) ∙ p i (omega arith))
         (λ e. after i (ltb-false i k e) ∙ p (suc i) (omega arith))
 
-    pub others-all : Passed rows (length rows) → tries t (without k rows) ≡ length rows - 1
+    pub others-all : NoneBefore rows (length rows) → tries t (without k rows) ≡ length rows - 1
     others-all p =
         let o = without-length k rows within in
         tries-all (without k rows) (passed-others (length (without k rows)) (λ i h. p i (omega arith))) ∙ o
 
     -- the first row that subsumes t stands at j
-    module _ (j : ℕ) (h : j < length rows) (p : Passed rows j) (e : subsumes (getD rows j []) t ≡ true) where
+    module _ (j : ℕ) (h : j < length rows) (p : NoneBefore rows j) (e : subsumes (getD rows j []) t ≡ true) where
       pub others-before : j < k → tries t (without k rows) ≡ suc j
       others-before g =
           tries-to (without k rows) j (λ i f. before i (omega arith) ∙ p i f) (omega (arith, without-length k rows within)) (before j g ∙ e)

@@ -6,10 +6,9 @@ use Prim.Native.Nat.{ℕ, _+_, _<_, _≤_}
 use native.Mathlib.Omega.{arith}
 use lib.ListN.{length, getD}
 use lib.Bits.{bitAnd, bitOr}
-use Rattle.definitions.specs.Limits.{maxUnionRows}
 use Rattle.definitions.specs.Word.{isFilled}
 use Rattle.definitions.proofs.Bools.{bool-cases}
-use Rattle.bitsets.specs.Bits.{has, both}
+use Rattle.bitsets.specs.Bits.{has, both, wordBits}
 use Rattle.bitsets.proofs.Bits.{both-in, both-l, or-in-l, or-in-r}
 use Rattle.patterns.specs.Columns.{blankOf}
 use Rattle.patterns.proofs.FilledRows.{has-blank}
@@ -18,7 +17,7 @@ use Rattle.minimum.specs.Candidates.{Candidates}
 -- the set holds those of the fuller rows that are filled wherever the row is, of the first c columns
 pub record HeldTo (row : List ℕ) (fuller : ℕ) (columns : List ℕ) (c s : ℕ) : Type 0 where
   pub among : (j : ℕ) → has s j ≡ true → has fuller j ≡ true
-  pub held : (j : ℕ) → j < maxUnionRows → has fuller j ≡ true
+  pub held : (j : ℕ) → j < wordBits → has fuller j ≡ true
       → ((i : ℕ) → i < c → isFilled (getD row i 0) ≡ true → has (getD columns i 0) j ≡ true) → has s j ≡ true
 
 module _ (row : List ℕ) (fuller : ℕ) (columns : List ℕ) where

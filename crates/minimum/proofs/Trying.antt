@@ -22,12 +22,13 @@ use Rattle.definitions.proofs.Subsumption.{subsumes-is, subsumes-self}
 use Rattle.lists.proofs.Flat.{rows-length, rows-at, row-fits, part-row}
 use Rattle.bitsets.specs.Bits.{has, withoutLowest}
 use Rattle.bitsets.proofs.Bits.{Lowest, has-none, rest-in, rest-of}
+use Rattle.bitsets.proofs.Words.{in-word}
 use Rattle.patterns.proofs.FilledRows.{filled-has}
 use Rattle.minimum.specs.Trying.{TriedRow}
 use Rattle.minimum.specs.Candidates.{Candidates, Prepared}
-use Rattle.minimum.proofs.Counting.{counted-length, count-at}
+use Rattle.minimum.proofs.Counting.{count-at}
 use Rattle.minimum.proofs.Covering.{covers-next, covers-end}
-use Rattle.minimum.proofs.OtherRows.{Passed, others-all, others-before, others-after}
+use Rattle.minimum.proofs.OtherRows.{NoneBefore, others-all, others-before, others-after}
 
 -- ---- how far the trying of row k has come
 
@@ -41,7 +42,7 @@ module _ (width n : ℕ) (w : List ℕ) (k : ℕ) where
   CoveredTo j c = covers (row width n w j) (row width n w k) ≡ covers (drop c (row width n w j)) (drop c (row width n w k))
 
   -- the rest of the candidates: fuller rows, and all that subsume row k are among them
-  pub record Left (rest : ℕ) : Type 0 where
+  pub record Remaining (rest : ℕ) : Type 0 where
     pub fuller : (i : ℕ) → has rest i ≡ true → (i < n) × (filled (row width n w k) < filled (row width n w i))
     pub all : (i : ℕ) → i < n → subsumes (row width n w i) (row width n w k) ≡ true → has rest i ≡ true
 
@@ -51,15 +52,15 @@ three-cases k j f g h =
 
 -- ---- the turns
 
-module _ {width n : ℕ} {w counts fuller columns : List ℕ} {k : ℕ} (own : k < n) (ready : Prepared width n w counts fuller columns) where
+module _ {width : ℕ} {w counts fuller columns : List ℕ} {k : ℕ} (own : k < length counts) (ready : Prepared width w counts fuller columns) where
+  abbrev n : ℕ
+  n = length counts
+
   abbrev rows : List (List ℕ)
   rows = rowsIn width n w
 
   abbrev at : ℕ → List ℕ
   at = row width n w
-
-  pub count-there : k < length counts
-  count-there = omega (arith, counted-length width n w counts (ready .counted))
 
   count-of : (j : ℕ) → getD counts j 0 ≡ filled (at j)
   count-of = count-at width n w counts (ready .counted)
@@ -106,10 +107,9 @@ module _ {width n : ℕ} {w counts fuller columns : List ℕ} {k : ℕ} (own : k
 
   -- at first all candidates are left
   pub left-all : (set at-k : ℕ) → at-k ≡ k * width
-      → Candidates (take (at-k + width - at-k) (drop at-k w)) (getD fuller (getD counts k 0) 0) columns set → Left width n w k set
+      → Candidates (take (at-k + width - at-k) (drop at-k w)) (getD fuller (getD counts k 0) 0) columns set → Remaining width n w k set
   left-all set at-k here told =
-      let few = ready .few in
-      let size = counted-length width n w counts (ready .counted) in
+      let few = in-word (ready .few) in
       let told-k : Candidates (at k) (getD fuller (getD counts k 0) 0) columns set =
       subst (λ (r : List ℕ). Candidates r (getD fuller (getD counts k 0) 0) columns set) (own-part at-k here) told in
       record {
@@ -122,7 +122,7 @@ module _ {width n : ℕ} {w counts fuller columns : List ℕ} {k : ℕ} (own : k
             (ready .fuller-rows .held (getD counts k 0) i (omega arith) (omega (arith, s .0, count-of i, count-of k)))
             (λ c g some.
             let c-in : c < width = omega (arith, row-long k own) in
-            ap (λ (x : ℕ). has x i) (ready .filled-rows .marks c c-in)
+            ap (λ (x : ℕ). has x i) (ready .filled-rows .words c c-in)
             ∙ filled-has rows c i (omega (arith, rows-length width n w))
             ∙ ⊎-elim
             (λ q. absurd (filled-cell (getD (at k) c 0) some q))
@@ -131,11 +131,11 @@ module _ {width n : ℕ} {w counts fuller columns : List ℕ} {k : ℕ} (own : k
       }
 
   -- the lowest of the rest is tried
-  module _ {rest j : ℕ} (left : Left width n w k rest) (low : Lowest rest j) where
+  module _ {rest j : ℕ} (left : Remaining width n w k rest) (low : Lowest rest j) where
     pub next-within : j < n
     next-within = left .fuller j (low .there) .0
 
-    pub left-next : covers (at j) (at k) ≡ false → Left width n w k (bitAnd rest (rest - 1))
+    pub left-next : covers (at j) (at k) ≡ false → Remaining width n w k (bitAnd rest (rest - 1))
     unfolding withoutLowest
     left-next f = record {
       fuller = λ i h. left .fuller i (rest-in rest i h);
@@ -146,7 +146,7 @@ module _ {width n : ℕ} {w counts fuller columns : List ℕ} {k : ℕ} (own : k
 
   -- ---- the trying has ended when so many rows had been looked at, row k itself among them or not
 
-  module _ {rest : ℕ} (left : Left width n w k rest) {subsumed : Bool} {looked pairs : ℕ}
+  module _ {rest : ℕ} (left : Remaining width n w k rest) {subsumed : Bool} {looked pairs : ℕ}
       (e : pairs ≡ cond (ltb k looked) (looked - 1) looked) where
     -- no candidate is left
     pub tried-none : rest ≡ 0 → subsumed ≡ false → looked ≡ n → TriedRow rows k subsumed pairs
@@ -169,7 +169,7 @@ module _ {width n : ℕ} {w counts fuller columns : List ℕ} {k : ℕ} (own : k
         let l = rows-length width n w in
         let more = left .fuller j (low .there) in
         let h = more .0 in
-        let p : Passed (at k) rows j =
+        let p : NoneBefore (at k) rows j =
         λ i g. not-so (subsumes (at i) (at k)) (λ q. clash (left .all i (omega arith) q) (low .below i g)) in
         let u : subsumes (at j) (at k) ≡ true = subsumes-is (at j) (at k) .1 (more .1, f) in
         record {

@@ -1,4 +1,4 @@
--- What the trying of one row gives, and what the trying of all rows gives: the numbers of the rows that stay, and the pairs tried.
+-- What the trying of one row gives, and what the trying of all rows gives: the indices of the rows that stay, and the pairs tried.
 use mathlib.Core.Path.{_≡_}
 use mathlib.Core.Bool.{Bool}
 use mathlib.Core.List.{List, []}
@@ -7,7 +7,7 @@ use lib.ListN.{length, getD, take}
 use Rattle.definitions.specs.Lists.{any, without}
 use Rattle.definitions.specs.Image.{rowsIn}
 use Rattle.definitions.specs.MinimumUnion.{subsumes, minimumRows, tries, pairsTried}
-use Rattle.rows.specs.Numbers.{rowsAt, Below}
+use Rattle.rows.specs.Indices.{rowsAt, Below}
 
 -- some row subsumes row k
 abbrev pub isSubsumed : List (List ℕ) → ℕ → Bool
@@ -23,9 +23,9 @@ pub record TriedRow (rows : List (List ℕ)) (k : ℕ) (subsumed : Bool) (pairs 
   pub tried : pairs ≡ triesAt rows k
   pub fewer : pairs < length rows
 
--- the first m numbers name the rows among the first n that none of these subsumes, in their order, and so many pairs have been tried
-pub record KeptRows (c n : ℕ) (w numbers : List ℕ) (m pairs : ℕ) : Type 0 where
+-- the first m indices name the rows among the first n that none of these subsumes, in their order, and so many pairs have been tried
+pub record KeptRows (c n : ℕ) (w indices : List ℕ) (m pairs : ℕ) : Type 0 where
   pub count : m ≤ n
-  pub below : Below n (take m numbers)
-  pub rows : rowsAt c w (take m numbers) ≡ minimumRows (rowsIn c n w)
+  pub below : Below n (take m indices)
+  pub rows : rowsAt c w (take m indices) ≡ minimumRows (rowsIn c n w)
   pub tried : pairs ≡ pairsTried (rowsIn c n w)

@@ -1,12 +1,13 @@
-// The filled cells of each row, counted once and not for each pair, and for each number of filled cells the rows that have more.
+// The filled cells of each row, counted once and not for each pair, and for each count the rows that have more.
 ghost use mathlib.Core.Path.{_≡_};
 ghost use mathlib.Core.List.{map};
 ghost use Prim.Native.Nat.{ℕ, _*_, _≤_, _<_};
 ghost use lib.ListN.{length, getD, take};
-ghost use Rattle.definitions.specs.Limits.{maxColumns, maxUnionRows};
+ghost use Rattle.definitions.specs.Limits.{maxColumns};
 ghost use Rattle.definitions.specs.Image.{rowsIn};
 ghost use Rattle.definitions.specs.MinimumUnion.{filled};
 ghost use Rattle.minimum.specs.Candidates.{EqualTo, FullerThan};
+ghost use Rattle.bitsets.specs.Bits.{wordBits};
 
 // Writes the filled cells of each of the first n rows over the first n counts.
 pub(crate) fn fill_counts(cells: &[u32], n: usize, width: usize, counts: &mut [u32])
@@ -23,9 +24,9 @@ pub(crate) fn fill_counts(cells: &[u32], n: usize, width: usize, counts: &mut [u
     }
 }
 
-// Writes for each number the rows with this count, over words that hold no row.
-fn mark_counts(counts: &[u32], words: &mut [u64])
-    requires { ⌜ (length (now counts) ≤ maxUnionRows) × ((j : ℕ) → getD (now counts) j 0 < length (now words)) ⌝ }
+// Writes for each count the rows that have it, over words that hold no row.
+fn rows_by_count(counts: &[u32], words: &mut [u64])
+    requires { ⌜ (length (now counts) ≤ wordBits) × ((j : ℕ) → getD (now counts) j 0 < length (now words)) ⌝ }
     requires { ⌜ ((k : ℕ) → getD (now words) k 0 ≡ 0) ⌝ }
     ensures { λ r. ⌜ EqualTo (now (counts .entry)) (length (now (counts .entry))) (now (words .exit)) ⌝ }
 {
@@ -37,14 +38,14 @@ fn mark_counts(counts: &[u32], words: &mut [u64])
     }
 }
 
-// Writes for each number the rows with a larger count, over words that hold no row. The number falls, so that the rows with a count from
-// it on grow by those with this count.
+// Writes for each count the rows with a larger one, over words that hold no row. The count falls, so that the rows with a count from
+// it on grow by those that have it.
 pub(crate) fn fill_fuller(counts: &[u32], words: &mut [u64])
-    requires { ⌜ (length (now counts) ≤ maxUnionRows) × ((j : ℕ) → getD (now counts) j 0 < length (now words)) ⌝ }
+    requires { ⌜ (length (now counts) ≤ wordBits) × ((j : ℕ) → getD (now counts) j 0 < length (now words)) ⌝ }
     requires { ⌜ ((k : ℕ) → getD (now words) k 0 ≡ 0) ⌝ }
     ensures { λ r. ⌜ FullerThan (now (counts .entry)) (now (words .exit)) ⌝ }
 {
-    mark_counts(counts, words);
+    rows_by_count(counts, words);
     let mut fuller = 0;
     let mut k = words.len();
     while 0 < k {

@@ -1,5 +1,5 @@
 // The trying of minimum union: each row of a table is tried with the other rows, until one subsumes it. The rows that none subsumes stay,
-// and are named by their numbers.
+// and are named by their indices.
 mod candidates;
 mod counts;
 mod trial;
@@ -20,24 +20,25 @@ pub struct Kept {
     pub pairs: usize,
 }
 
-// Writes the numbers of the rows that no row subsumes, ascending.
+// Writes the indices of the rows that no row subsumes, ascending; there is a count for each row.
 fn keep_rows(
     cells: &[u32],
     counts: &[u32],
     fuller: &[u64],
     columns: &[u64],
-    n: usize,
     width: usize,
     kept: &mut [u32],
 ) -> Kept
-    requires { ⌜ Prepared width n (now cells) (now counts) (now fuller) (now columns) × (n ≤ length (now kept)) ⌝ }
-    ensures { λ r. ⌜ KeptRows width n (now (cells .entry)) (now (kept .exit)) (r .rows) (r .pairs) ⌝ }
+    requires { ⌜ Prepared width (now cells) (now counts) (now fuller) (now columns)
+        × (length (now counts) ≤ length (now kept)) ⌝ }
+    ensures { λ r. ⌜ KeptRows width (length (now (counts .entry))) (now (cells .entry)) (now (kept .exit))
+        (r .rows) (r .pairs) ⌝ }
 {
     let mut rows = 0;
     let mut pairs = 0;
     let mut k = 0;
-    while k < n {
-        let tried = try_row(cells, counts, fuller, columns, n, width, k);
+    while k < counts.len() {
+        let tried = try_row(cells, counts, fuller, columns, width, k);
         pairs += tried.pairs;
         if tried.subsumed {
             k += 1;
@@ -50,7 +51,7 @@ fn keep_rows(
     Kept { rows, pairs }
 }
 
-// Writes the numbers of those of the first n rows that none of these subsumes, ascending.
+// Writes the indices of those of the first n rows that none of these subsumes, ascending.
 pub fn minimum_rows(cells: &[u32], n: usize, width: usize, kept: &mut [u32]) -> Kept
     requires { ⌜ (n ≤ maxUnionRows) × (width ≤ maxColumns) × (n * width ≤ length (now cells))
         × (n ≤ length (now kept)) ⌝ }
@@ -63,5 +64,5 @@ pub fn minimum_rows(cells: &[u32], n: usize, width: usize, kept: &mut [u32]) -> 
     let counted = &counts[..n];
     fill_fuller(counted, &mut fuller);
     patterns::fill_columns(cells, n, width, &mut columns);
-    keep_rows(cells, counted, &fuller, &columns, n, width, kept)
+    keep_rows(cells, counted, &fuller, &columns, width, kept)
 }

@@ -4,6 +4,7 @@ ghost use mathlib.Core.Path.{_≡_};
 ghost use mathlib.Core.Bool.{cond, not, _||_};
 ghost use Prim.Native.Nat.{_-_, _<_};
 ghost use lib.Dec.{eqb, ltb};
+ghost use lib.ListN.{length};
 ghost use Rattle.definitions.specs.Word.{isFilled};
 ghost use Rattle.definitions.specs.Image.{rowsIn};
 ghost use Rattle.minimum.specs.Trying.{TriedRow};
@@ -30,7 +31,7 @@ fn others(first: usize, k: usize) -> usize
 }
 
 // Whether some row subsumes row k, and how many pairs are tried for it.
-pub struct Tried {
+pub(crate) struct Tried {
     pub subsumed: bool,
     pub pairs: usize,
 }
@@ -42,19 +43,19 @@ pub(crate) fn try_row(
     counts: &[u32],
     fuller: &[u64],
     columns: &[u64],
-    n: usize,
     width: usize,
     k: usize,
 ) -> Tried
-    requires { ⌜ (k < n) × Prepared width n (now cells) (now counts) (now fuller) (now columns) ⌝ }
-    ensures { λ r. ⌜ TriedRow (rowsIn width n (now (cells .entry))) k (r .subsumed) (r .pairs) ⌝ }
+    requires { ⌜ (k < length (now counts)) × Prepared width (now cells) (now counts) (now fuller) (now columns) ⌝ }
+    ensures { λ r. ⌜ TriedRow (rowsIn width (length (now (counts .entry))) (now (cells .entry))) k
+        (r .subsumed) (r .pairs) ⌝ }
 {
     let own = k * width;
     let own_end = own + width;
     let count = counts[k] as usize;
     let mut rest = candidates::for_row(&cells[own..own_end], fuller[count], columns);
     let mut subsumed = false;
-    let mut looked = n;
+    let mut looked = counts.len();
     'rows: while rest != 0 {
         let j = u64::trailing_zeros(rest) as usize;
         let at = j * width;

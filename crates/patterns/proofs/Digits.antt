@@ -1,4 +1,4 @@
--- Marks as the digits of a number: a bound, and one mark more. Assumes nothing.
+-- Bits as the digits of a number: a bound, and one bit more. Assumes nothing.
 use mathlib.Core.Path.{_≡_, sym, _∙_, ap₂}
 use mathlib.Core.Bool.{Bool, true, false, cond}
 use mathlib.Core.List.{List, [], _∷_, _++_}
@@ -28,10 +28,10 @@ bits-snoc (x ∷ s) m = rw (bits-snoc s m, pow-suc 2 (length s)) (doubled m (2 ^
     doubled true p = omega arith
     doubled false p = omega arith
 
--- the mark of the next position, shifted to its place
-pub mark-next : (width : ℕ) (s : List Bool) (m : Bool) (w b k : ℕ) → k < width → length s ≡ k → w ≡ bits s → b ≡ cond m 1 0
+-- the bit of the next position, shifted there
+pub digit-next : (width : ℕ) (s : List Bool) (m : Bool) (w b k : ℕ) → k < width → length s ≡ k → w ≡ bits s → b ≡ cond m 1 0
     → bitOr w (b * 2 ^ k % 2 ^ width) ≡ bits (s ++ (m ∷ []))
-mark-next width s m w b k h e ew eb =
+digit-next width s m w b k h e ew eb =
     let small : b < 2 = rw eb (bit-small m) in
     let at : bits s < 2 ^ k = rw (← e) (bits-small s) in
     ap₂ bitOr ew (shl-exact 1 k width small (omega arith))

@@ -8,7 +8,7 @@ use lib.Bits.{bitOr}
 use lib.ListN.{length, getD, set, replicate, take, drop, length-set, length-map, length-replicate, getD-replicate}
 use lib.Seq.{getD-set-same, getD-set-other}
 use borrow.Author.Count.{below-more}
-use Rattle.definitions.specs.Limits.{maxColumns, maxUnionRows}
+use Rattle.definitions.specs.Limits.{maxColumns}
 use Rattle.definitions.specs.Word.{isFilled}
 use Rattle.definitions.specs.Image.{rowsIn}
 use Rattle.definitions.specs.ComplementUnion.{contains}
@@ -18,10 +18,10 @@ use Rattle.definitions.proofs.Lists.{map-at}
 use Rattle.definitions.proofs.Rows.{cell-filled, cell-empty}
 use Rattle.definitions.proofs.Sets.{contains-get, holds-within}
 use Rattle.lists.proofs.Flat.{rows-length}
-use Rattle.bitsets.specs.Bits.{has, rowsBelow}
+use Rattle.bitsets.specs.Bits.{has, rowsBelow, wordBits}
 use Rattle.bitsets.proofs.Bits.{has-bits, has-none, below-in}
 use Rattle.patterns.specs.Columns.{blankOf, filledIn, ColumnsOf, FilledRow}
-use Rattle.patterns.proofs.Digits.{mark-next}
+use Rattle.patterns.proofs.Digits.{digit-next}
 use Rattle.patterns.proofs.Parts.{rows-snoc, part-is, part-length}
 
 -- ---- the rows that are filled in a column
@@ -31,12 +31,12 @@ unfolding filledIn bits
 filled-none column = refl
 
 -- one row more
-filled-snoc : (rows : List (List ℕ)) (row : List ℕ) (column j word b : ℕ) → length rows ≡ j → j < 64 → word ≡ filledIn rows column
-    → b ≡ cond (isFilled (getD row column 0)) 1 0 → bitOr word (b * 2 ^ j % 2 ^ 64) ≡ filledIn (rows ++ (row ∷ [])) column
+filled-snoc : (rows : List (List ℕ)) (row : List ℕ) (column j word b : ℕ) → length rows ≡ j → j < wordBits → word ≡ filledIn rows column
+    → b ≡ cond (isFilled (getD row column 0)) 1 0 → bitOr word (b * 2 ^ j % 2 ^ wordBits) ≡ filledIn (rows ++ (row ∷ [])) column
 unfolding filledIn
 filled-snoc rows row column j word b size h e eb =
     let f : List ℕ → Bool = λ r. isFilled (getD r column 0) in
-    mark-next 64 (map f rows) (f row) word b j h (length-map rows f ∙ size) e eb
+    digit-next wordBits (map f rows) (f row) word b j h (length-map rows f ∙ size) e eb
     ∙ ap bits (sym (map-append f rows (row ∷ [])))
 
 -- a row that is filled in a column
@@ -58,7 +58,7 @@ filled-within rows column k h =
 -- the first c columns hold row j
 pub record FilledTo (row : List ℕ) (j : ℕ) (found : List ℕ) (c : ℕ) (columns : List ℕ) : Type 0 where
   pub size : length columns ≡ length found
-  pub done : (i : ℕ) → i < c → getD columns i 0 ≡ bitOr (getD found i 0) (cond (isFilled (getD row i 0)) 1 0 * 2 ^ j % 2 ^ 64)
+  pub done : (i : ℕ) → i < c → getD columns i 0 ≡ bitOr (getD found i 0) (cond (isFilled (getD row i 0)) 1 0 * 2 ^ j % 2 ^ wordBits)
   pub left : (i : ℕ) → c ≤ i → getD columns i 0 ≡ getD found i 0
 
 module _ (row : List ℕ) (j : ℕ) (found : List ℕ) where
@@ -66,28 +66,28 @@ module _ (row : List ℕ) (j : ℕ) (found : List ℕ) where
   filled-to-none = record { size = refl; done = λ i h. absurd (omega arith); left = λ i h. refl }
 
   pub filled-to-turn : (c : ℕ) (columns : List ℕ) (b : ℕ) → c < length found → b ≡ cond (isFilled (getD row c 0)) 1 0 → FilledTo row j found c columns
-      → FilledTo row j found (c + 1) (set columns c (bitOr (getD columns c 0) (b * 2 ^ j % 2 ^ 64)))
+      → FilledTo row j found (c + 1) (set columns c (bitOr (getD columns c 0) (b * 2 ^ j % 2 ^ wordBits)))
   filled-to-turn c columns b h eb inv =
       let size : length columns ≡ length found = inv .size in
-      let v : ℕ = bitOr (getD columns c 0) (b * 2 ^ j % 2 ^ 64) in
+      let v : ℕ = bitOr (getD columns c 0) (b * 2 ^ j % 2 ^ wordBits) in
       record {
         size = length-set columns c v ∙ size;
-        done = below-more (λ (i : ℕ). getD (set columns c v) i 0 ≡ bitOr (getD found i 0) (cond (isFilled (getD row i 0)) 1 0 * 2 ^ j % 2 ^ 64)) c
+        done = below-more (λ (i : ℕ). getD (set columns c v) i 0 ≡ bitOr (getD found i 0) (cond (isFilled (getD row i 0)) 1 0 * 2 ^ j % 2 ^ wordBits)) c
             (λ i g. getD-set-other columns c i v 0 (λ q. omega arith) ∙ inv .done i g)
             (getD-set-same columns c v 0 (omega arith)
-            ∙ ap₂ (λ (x y : ℕ). bitOr x (y * 2 ^ j % 2 ^ 64)) (inv .left c (omega arith)) eb);
+            ∙ ap₂ (λ (x y : ℕ). bitOr x (y * 2 ^ j % 2 ^ wordBits)) (inv .left c (omega arith)) eb);
         left = λ i g. getD-set-other columns c i v 0 (λ q. omega arith) ∙ inv .left i (omega arith);
       }
 
-  pub filled-to-end : (c : ℕ) (columns : List ℕ) → length row ≤ c → j < 64 → FilledTo row j found c columns → FilledRow row j found columns
+  pub filled-to-end : (c : ℕ) (columns : List ℕ) → length row ≤ c → j < wordBits → FilledTo row j found c columns → FilledRow row j found columns
   filled-to-end c columns all small inv = record {
     more = λ rows size o.
         let same : length columns ≡ length found = inv .size in
         record {
           size = omega (arith, o .size);
-          marks = λ i h.
+          words = λ i h.
               inv .done i (omega arith)
-              ∙ filled-snoc rows row i j (getD found i 0) (cond (isFilled (getD row i 0)) 1 0) size small (o .marks i h) refl;
+              ∙ filled-snoc rows row i j (getD found i 0) (cond (isFilled (getD row i 0)) 1 0) size small (o .words i h) refl;
         };
   }
 
@@ -96,7 +96,7 @@ module _ (row : List ℕ) (j : ℕ) (found : List ℕ) where
 pub columns-none : (width : ℕ) → width ≤ maxColumns → ColumnsOf [] width (replicate maxColumns 0)
 columns-none width h = record {
   size = omega (arith, length-replicate {A = ℕ} maxColumns 0);
-  marks = λ c g. getD-replicate maxColumns c 0 0 (omega arith) ∙ sym (filled-none c);
+  words = λ c g. getD-replicate maxColumns c 0 0 (omega arith) ∙ sym (filled-none c);
 }
 
 -- n rows of c cells stand in w, and the row j, from at on, is the next
@@ -119,12 +119,12 @@ blank-empty x e = sym (rw (cell-empty x e))
 pub blank-filled : (x : ℕ) → (x ≡ 0 → ⊥) → 0 ≡ blankOf x
 blank-filled x some = sym (rw (cell-filled x some))
 
-pub has-blank : (x k : ℕ) → k < maxUnionRows → has (blankOf x) k ≡ not (isFilled x)
+pub has-blank : (x k : ℕ) → k < wordBits → has (blankOf x) k ≡ not (isFilled x)
 has-blank x k h =
     bool-cases (isFilled x)
     (λ e. rw e (has-none k))
-    (λ e. rw e (below-in maxUnionRows k h))
+    (λ e. rw e (below-in wordBits k h))
 
-pub blank-fits : (x : ℕ) → blankOf x < 2 ^ 64
+pub blank-fits : (x : ℕ) → blankOf x < 2 ^ wordBits
 unfolding rowsBelow
 blank-fits x = bool-cases (isFilled x) (λ e. rw e (omega arith)) (λ e. rw e (omega arith))

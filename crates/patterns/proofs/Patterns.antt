@@ -18,8 +18,8 @@ use Rattle.definitions.specs.MinimumUnion.{filled}
 use Rattle.definitions.specs.SetList.{bits}
 use Rattle.lists.proofs.Flat.{words-rows}
 use Rattle.lists.proofs.Walks.{next}
-use Rattle.patterns.specs.Pattern.{patternOf}
-use Rattle.patterns.proofs.Digits.{bit-small, bits-small, mark-next}
+use Rattle.patterns.specs.Pattern.{patternOf, patternBits}
+use Rattle.patterns.proofs.Digits.{bit-small, bits-small, digit-next}
 
 -- 1 for a filled cell, 0 for the empty cell
 abbrev pub bitOf : ℕ → ℕ
@@ -43,11 +43,11 @@ ones-pattern (x ∷ s) =
 
 -- a cell more
 pub pattern-turn : (row : List ℕ) (i p b : ℕ) → length row ≤ maxColumns → i < length row → p ≡ patternOf (take i row) → b ≡ bitOf (getD row i 0)
-    → bitOr p (b * 2 ^ i % 2 ^ 32) ≡ patternOf (take (i + 1) row)
+    → bitOr p (b * 2 ^ i % 2 ^ patternBits) ≡ patternOf (take (i + 1) row)
 unfolding patternOf
 pattern-turn row i p b few h e f =
     let x = getD row i 0 in
-    mark-next 32 (map isFilled (take i row)) (isFilled x) p b i (omega arith) (length-map (take i row) isFilled ∙ length-take-le i row (omega arith)) e f
+    digit-next patternBits (map isFilled (take i row)) (isFilled x) p b i (omega arith) (length-map (take i row) isFilled ∙ length-take-le i row (omega arith)) e f
     ∙ ap bits (sym (map-append isFilled (take i row) (x ∷ [])))
     ∙ ap patternOf (sym (take-suc row i 0 h) ∙ ap (λ (n : ℕ). take n row) (sym (add-one i)))
 

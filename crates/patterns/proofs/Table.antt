@@ -7,7 +7,7 @@ use native.Mathlib.Nat.{add-zero, zero-add, add-suc, suc-add, le-of-suc-le-suc, 
 use lib.ListN.{length, getD}
 use Rattle.definitions.proofs.Bools.{and-l, and-r}
 
--- the test f passes at each entry of the list and its place, counted from i
+-- the test f passes at each entry of the list and its index, counted from i
 abbrev pub every : (ℕ → ℕ → Bool) → ℕ → List ℕ → Bool
 every f i [] = true
 every f i (x ∷ xs) = f i x && every f (suc i) xs

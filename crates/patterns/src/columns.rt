@@ -5,20 +5,23 @@ ghost use mathlib.Core.Path.{_≡_};
 ghost use mathlib.Core.List.{[]};
 ghost use Prim.Native.Nat.{_*_, _≤_, _<_};
 ghost use lib.ListN.{length};
-ghost use Rattle.definitions.specs.Limits.{maxUnionRows};
 ghost use Rattle.definitions.specs.Image.{rowsIn};
 ghost use Rattle.patterns.specs.Columns.{blankOf, ColumnsOf, FilledRow};
+ghost use Rattle.bitsets.specs.Bits.{wordBits};
+
+// The word that holds every row.
+const ALL_ROWS: u64 = 18446744073709551615;
 
 // All rows for an empty cell, none for a filled one.
 pub fn blank(cell: u32) -> u64
     ensures { λ r. ⌜ r ≡ blankOf cell ⌝ }
 {
-    if cell == 0 { 18446744073709551615 } else { 0 }
+    if cell == 0 { ALL_ROWS } else { 0 }
 }
 
-// Marks row j in the columns where it is filled.
-fn mark_columns(row: &[u32], j: usize, columns: &mut [u64])
-    requires { ⌜ (length (now row) ≤ length (now columns)) × (j < maxUnionRows) ⌝ }
+// Puts row j into the words of the columns where it is filled.
+fn add_row(row: &[u32], j: usize, columns: &mut [u64])
+    requires { ⌜ (length (now row) ≤ length (now columns)) × (j < wordBits) ⌝ }
     ensures { λ r. ⌜ FilledRow (now (row .entry)) j (now (columns .entry)) (now (columns .exit)) ⌝ }
 {
     let mut c = 0;
@@ -31,14 +34,14 @@ fn mark_columns(row: &[u32], j: usize, columns: &mut [u64])
 
 // Writes, for each column, the rows that are filled there, of the first n. At first the words hold no row.
 pub fn fill_columns(cells: &[u32], n: usize, width: usize, columns: &mut [u64])
-    requires { ⌜ (n ≤ maxUnionRows) × (n * width ≤ length (now cells)) × ColumnsOf [] width (now columns) ⌝ }
+    requires { ⌜ (n ≤ wordBits) × (n * width ≤ length (now cells)) × ColumnsOf [] width (now columns) ⌝ }
     ensures { λ r. ⌜ ColumnsOf (rowsIn width n (now (cells .entry))) width (now (columns .exit)) ⌝ }
 {
     let mut j = 0;
     let mut at = 0;
     while j < n {
         let next = at + width;
-        mark_columns(&cells[at..next], j, columns);
+        add_row(&cells[at..next], j, columns);
         at = next;
         j += 1;
     }

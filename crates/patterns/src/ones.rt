@@ -2,8 +2,11 @@
 ghost use mathlib.Core.Path.{_≡_};
 ghost use lib.Count.{ones};
 
+// The values of a byte: not a number of columns.
+const BYTE_VALUES: usize = 256;
+
 // The ones in each byte.
-const ONES: [u8; 256] = [
+const ONES: [u8; BYTE_VALUES] = [
     0,
     1,
     1,

@@ -1,8 +1,8 @@
--- Laws of rows named by numbers: comparing, inserting, merging, finding and writing them.
+-- Laws of rows named by indices: comparing, inserting, merging, finding and writing them.
 pub mod Comparing
-pub mod Numbers
+pub mod Indices
 pub mod Inserting
 pub mod Merging
 pub mod Halves
-pub mod Places
+pub mod Positions
 pub mod Writing

@@ -12,17 +12,17 @@ use Rattle.definitions.proofs.Counts.{flatten-length}
 use Rattle.definitions.proofs.Images.{rows-read}
 use Rattle.lists.proofs.Flat.{Wide, part-row, row-fits, flat-row}
 use Rattle.lists.proofs.Pastes.{Pasted, pasted-more}
-use Rattle.rows.specs.Numbers.{rowAt, rowsAt, Fit}
-use Rattle.rows.proofs.Numbers.{fit-named, rows-length-at, row-named, part, part-length}
+use Rattle.rows.specs.Indices.{rowAt, rowsAt, Fit}
+use Rattle.rows.proofs.Indices.{fit-named, rows-length-at, row-named, part, part-length}
 
--- the rows at numbers that fit are all c words long
+-- the rows at indices that fit are all c words long
 fit-wide : (c : ℕ) (w l : List ℕ) → Fit c (length w) l → Wide c (rowsAt c w l)
 fit-wide c w [] h r k = absurd k
 fit-wide c w (i ∷ l) h r k =
     ⊎-elim (λ e. ap length e ∙ length-take-le c (drop (i * c) w) (omega (arith, h .0, length-drop (i * c) w))) (λ q. fit-wide c w l (h .1) r q) k
 
 module _ (d w o : List ℕ) (at c m : ℕ) (fit : Fit c (length w) (take m o)) (within : m ≤ length o) where
-  -- the words of the rows at the first m numbers
+  -- the words of the rows at the first m indices
   abbrev pub rowWords : List ℕ
   rowWords = flatten (rowsAt c w (take m o))
 
@@ -43,7 +43,7 @@ module _ (d w o : List ℕ) (at c m : ℕ) (fit : Fit c (length w) (take m o)) (
       (pasted-more d at rowWords (k * c) cur new (part c (x * c) w) c to (omega arith) (omega (arith, row-words-length)) p here (part-length c (x * c) w inside) row q)
 
   -- all words of the list afterwards
-  pub rows-written : paste d at rowWords (m * c) ≡ take at d ++ (rowWords ++ drop (at + m * c) d)
+  rows-written : paste d at rowWords (m * c) ≡ take at d ++ (rowWords ++ drop (at + m * c) d)
   rows-written =
       append-assoc (take at d) (take (m * c) rowWords) (drop (at + m * c) d)
       ∙ ap (λ (s : List ℕ). take at d ++ (s ++ drop (at + m * c) d)) (take-all (m * c) rowWords (omega (arith, row-words-length)))

@@ -1,2 +1,2 @@
--- Rows named by their numbers.
-pub mod Numbers
+-- Rows named by their indices.
+pub mod Indices

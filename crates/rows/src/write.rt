@@ -4,7 +4,7 @@ ghost use mathlib.Core.List.{flatten};
 ghost use Prim.Native.Nat.{_+_, _*_, _≤_};
 ghost use lib.ListN.{length, take};
 ghost use lib.Seq.{paste};
-ghost use Rattle.rows.specs.Numbers.{rowsAt, Fit};
+ghost use Rattle.rows.specs.Indices.{rowsAt, Fit};
 use crate::compare::wide;
 
 // Writes the first n words over those of dst from `at`.
@@ -19,10 +19,12 @@ pub fn write_words(dst: &mut [u32], at: usize, words: &[u32], n: usize)
     }
 }
 
-// Writes the rows at the first m numbers, one after the other, over the words of dst from `at`.
+// Writes the rows at the first m indices, one after the other, over the words of dst from `at`.
 pub fn write_rows(dst: &mut [u32], at: usize, cells: &[u32], width: usize, order: &[u32], m: usize)
-    requires { ⌜ (m ≤ length (now order)) × Fit width (length (now cells)) (take m (now order)) × (at + m * width ≤ length (now dst)) ⌝ }
-    ensures { λ r. ⌜ now (dst .exit) ≡ paste (now (dst .entry)) at (flatten (rowsAt width (now (cells .entry)) (take m (now (order .entry))))) (m * width) ⌝ }
+    requires { ⌜ (m ≤ length (now order)) × Fit width (length (now cells)) (take m (now order))
+        × (at + m * width ≤ length (now dst)) ⌝ }
+    ensures { λ r. ⌜ now (dst .exit) ≡ paste (now (dst .entry)) at
+        (flatten (rowsAt width (now (cells .entry)) (take m (now (order .entry))))) (m * width) ⌝ }
 {
     let mut k = 0;
     let mut to = at;

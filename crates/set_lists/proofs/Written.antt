@@ -13,7 +13,7 @@ use Rattle.definitions.specs.SetList.{bits, fusedPosition, setRecord, setList}
 use Rattle.definitions.specs.Statements.{Member}
 use Rattle.definitions.proofs.Counts.{fused-count, set-list-length}
 use Rattle.definitions.proofs.SetWords.{fused-position-within}
-use Rattle.rows.specs.Numbers.{Below}
+use Rattle.rows.specs.Indices.{Below}
 use Rattle.set_lists.specs.Records.{recordOf, recordsOf, listOf}
 
 module _ (rows : List (List ℕ)) where

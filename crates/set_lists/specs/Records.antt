@@ -5,7 +5,7 @@ use lib.ListN.{length, take}
 use Rattle.definitions.specs.Limits.{markWords, setWidth, maxSets}
 use Rattle.definitions.specs.Word.{wordOf, headerWord}
 use Rattle.definitions.specs.SetList.{marksFrom}
-use Rattle.rows.specs.Numbers.{Below}
+use Rattle.rows.specs.Indices.{Below}
 
 -- a set's mark words, and the position of its joined row
 unfoldable pub recordOf : ℕ → ℕ → List ℕ

@@ -1,4 +1,4 @@
--- A row whose cells are written at the places of its ids, over empty cells, stands there widened; and so distinct ids are put in order.
+-- A row whose cells are written at the indices of its ids, over empty cells, stands there widened; and so distinct ids are put in order.
 -- Assumes nothing.
 use mathlib.Core.Path.{_≡_, refl, sym, _∙_, ap, ap₂, subst}
 use mathlib.Core.Bool.{true}
@@ -21,36 +21,36 @@ use Rattle.definitions.proofs.Lists.{member-get, member-at, member-map, map-mem
 use Rattle.definitions.proofs.Widened.{cell-own, widened-own, widened-lacking}
 use Rattle.lists.proofs.Pastes.{paste-front}
 use Rattle.lists.proofs.Walks.{next, end}
-use Rattle.tables.specs.Places.{smallerThan, placesIn, scattered}
-use Rattle.tables.proofs.Smaller.{smaller-place, smaller-member, smaller-ascending, distinct-count, known-member}
+use Rattle.tables.specs.UnionIds.{smallerThan, indicesIn, scattered}
+use Rattle.tables.proofs.Smaller.{smaller-index, smaller-member, smaller-ascending, distinct-count, known-member}
 
 -- ---- the loop: j cells are written
 
-pub record Scattering (cells₀ : List ℕ) (at : ℕ) (places row : List ℕ) (j : ℕ) (cells : List ℕ) : Type 0 where
+pub record Scattering (cells₀ : List ℕ) (at : ℕ) (indices row : List ℕ) (j : ℕ) (cells : List ℕ) : Type 0 where
   pub size : length cells ≡ length cells₀
-  pub rest : scattered cells₀ at places row ≡ scattered cells at (drop j places) (drop j row)
+  pub rest : scattered cells₀ at indices row ≡ scattered cells at (drop j indices) (drop j row)
 
-none-left : (cells : List ℕ) (at : ℕ) (places : List ℕ) → scattered cells at places [] ≡ cells
+none-left : (cells : List ℕ) (at : ℕ) (indices : List ℕ) → scattered cells at indices [] ≡ cells
 unfolding scattered
 none-left cells at [] = refl
-none-left cells at (p ∷ places) = refl
+none-left cells at (p ∷ indices) = refl
 
-module _ (cells₀ : List ℕ) (at : ℕ) (places row : List ℕ) where
-  pub scatter-none : Scattering cells₀ at places row 0 cells₀
+module _ (cells₀ : List ℕ) (at : ℕ) (indices row : List ℕ) where
+  pub scatter-none : Scattering cells₀ at indices row 0 cells₀
   scatter-none = record { size = refl; rest = refl }
 
-  pub scatter-turn : (j d p v : ℕ) (cells : List ℕ) → Scattering cells₀ at places row j cells → j < length places → j < length row
-      → p ≡ at + getD places j d → v ≡ getD row j 0 → Scattering cells₀ at places row (j + 1) (set cells p v)
+  pub scatter-turn : (j d p v : ℕ) (cells : List ℕ) → Scattering cells₀ at indices row j cells → j < length indices → j < length row
+      → p ≡ at + getD indices j d → v ≡ getD row j 0 → Scattering cells₀ at indices row (j + 1) (set cells p v)
   unfolding scattered
   scatter-turn j d p v cells s h g ep ev = record {
     size = length-set cells p v ∙ s .size;
-    rest = s .rest ∙ ap₂ (scattered cells at) (next d places j h) (next 0 row j g)
-        ∙ ap₂ (λ (k x : ℕ). scattered (set cells k x) at (drop (j + 1) places) (drop (j + 1) row)) (sym ep) (sym ev);
+    rest = s .rest ∙ ap₂ (scattered cells at) (next d indices j h) (next 0 row j g)
+        ∙ ap₂ (λ (k x : ℕ). scattered (set cells k x) at (drop (j + 1) indices) (drop (j + 1) row)) (sym ep) (sym ev);
   }
 
-  pub scatter-all : (j : ℕ) (cells : List ℕ) → Scattering cells₀ at places row j cells → length row ≤ j → cells ≡ scattered cells₀ at places row
+  pub scatter-all : (j : ℕ) (cells : List ℕ) → Scattering cells₀ at indices row j cells → length row ≤ j → cells ≡ scattered cells₀ at indices row
   scatter-all j cells s h =
-      sym (s .rest ∙ ap (scattered cells at (drop j places)) (end row j h) ∙ none-left cells at (drop j places))
+      sym (s .rest ∙ ap (scattered cells at (drop j indices)) (end row j h) ∙ none-left cells at (drop j indices))
 
 -- ---- what stands in a list written over
 
@@ -77,22 +77,22 @@ module _ (d : List ℕ) (at : ℕ) (s : List ℕ) (n : ℕ) (fits : at + n ≤ l
 
 -- ---- what stands in the cells afterwards
 
-scatter-size : (at : ℕ) (places row cells : List ℕ) → length (scattered cells at places row) ≡ length cells
+scatter-size : (at : ℕ) (indices row cells : List ℕ) → length (scattered cells at indices row) ≡ length cells
 unfolding scattered
 scatter-size at [] row cells = refl
-scatter-size at (p ∷ places) [] cells = refl
-scatter-size at (p ∷ places) (v ∷ row) cells = scatter-size at places row (set cells (at + p) v) ∙ length-set cells (at + p) v
+scatter-size at (p ∷ indices) [] cells = refl
+scatter-size at (p ∷ indices) (v ∷ row) cells = scatter-size at indices row (set cells (at + p) v) ∙ length-set cells (at + p) v
 
 -- where each cell is written as it is to be, what was right already, or is written, is right
-scatter-tells : (d : ℕ) (goal : List ℕ) (at : ℕ) (places row cells : List ℕ) → length row ≡ length places
-    → ((j : ℕ) → j < length places → (at + getD places j d < length cells) × (getD row j 0 ≡ getD goal (at + getD places j d) 0))
-    → (i : ℕ) → (getD cells i 0 ≡ getD goal i 0) ⊎ ((p : ℕ) × Member p places × (i ≡ at + p)) → getD (scattered cells at places row) i 0 ≡ getD goal i 0
+scatter-tells : (d : ℕ) (goal : List ℕ) (at : ℕ) (indices row cells : List ℕ) → length row ≡ length indices
+    → ((j : ℕ) → j < length indices → (at + getD indices j d < length cells) × (getD row j 0 ≡ getD goal (at + getD indices j d) 0))
+    → (i : ℕ) → (getD cells i 0 ≡ getD goal i 0) ⊎ ((p : ℕ) × Member p indices × (i ≡ at + p)) → getD (scattered cells at indices row) i 0 ≡ getD goal i 0
 unfolding scattered
 scatter-tells d goal at [] row cells e f i h = ⊎-elim (λ q. q) (λ q. absurd (q .1)) h
-scatter-tells d goal at (p ∷ places) [] cells e f i h = absurd (omega arith)
-scatter-tells d goal at (p ∷ places) (v ∷ row) cells e f i h =
+scatter-tells d goal at (p ∷ indices) [] cells e f i h = absurd (omega arith)
+scatter-tells d goal at (p ∷ indices) (v ∷ row) cells e f i h =
     let g = f 0 (omega arith) in
-    scatter-tells d goal at places row (set cells (at + p) v) (omega arith)
+    scatter-tells d goal at indices row (set cells (at + p) v) (omega arith)
     (λ j k. let q = f (suc j) (omega arith) in (omega (arith, q .0, length-set cells (at + p) v), q .1)) i
     (bool-cases (eqb i (at + p))
     (λ b. let u = eqb-true i (at + p) b in
@@ -101,7 +101,7 @@ scatter-tells d goal at (p ∷ places) (v ∷ row) cells e f i h =
     ⊎-elim (λ q. inl (getD-set-other cells (at + p) i v 0 u ∙ q))
     (λ q. ⊎-elim (λ r. absurd (u (q .2 ∙ ap (λ (k : ℕ). at + k) r))) (λ r. inr (q .0, r, q .2)) (q .1)) h))
 
--- ---- a row at the places of its ids in a union is a widened row
+-- ---- a row at the indices of its ids in a union is a widened row
 
 pub empty-cells : (n k : ℕ) → _≡_ {A = ℕ} (getD (replicate n 0) k 0) 0
 empty-cells zero k = refl
@@ -118,9 +118,9 @@ module _ (union ids row cells : List ℕ) (at : ℕ) (strict : StrictlyAscending
   abbrev goal : List ℕ
   goal = paste cells at (widened union ids row) (length union)
 
-  place-holds : (j : ℕ) → j < length ids
-      → (at + getD (placesIn union ids) j (smallerThan 0 union) < length cells) × (getD row j 0 ≡ getD goal (at + getD (placesIn union ids) j (smallerThan 0 union)) 0)
-  place-holds j h =
+  index-holds : (j : ℕ) → j < length ids
+      → (at + getD (indicesIn union ids) j (smallerThan 0 union) < length cells) × (getD row j 0 ≡ getD goal (at + getD (indicesIn union ids) j (smallerThan 0 union)) 0)
+  index-holds j h =
       let s = smaller-member (getD ids j 0) union strict (has (getD ids j 0) (member-get 0 ids j h)) in
       let e = List·getD-map (λ id. smallerThan id union) ids j 0 in
       let k = smallerThan (getD ids j 0) union in (
@@ -129,56 +129,56 @@ module _ (union ids row cells : List ℕ) (at : ℕ) (strict : StrictlyAscending
             ∙ widened-own union ids row differ k j (s .0) h (s .1)),
       )
 
-  within : (k : ℕ) → k < length union → (getD cells (at + k) 0 ≡ getD goal (at + k) 0) ⊎ ((p : ℕ) × Member p (placesIn union ids) × (at + k ≡ at + p))
+  within : (k : ℕ) → k < length union → (getD cells (at + k) 0 ≡ getD goal (at + k) 0) ⊎ ((p : ℕ) × Member p (indicesIn union ids) × (at + k ≡ at + p))
   within k h =
       let u = getD union k 0 in
       let e = paste-within cells at (widened union ids row) (length union) fits (omega (arith, wide)) k h in
       bool-cases (any (eqb u) ids)
       (λ b. inr (
         k,
-        subst (λ (p : ℕ). Member p (placesIn union ids)) (smaller-place union k strict h)
+        subst (λ (p : ℕ). Member p (indicesIn union ids)) (smaller-index union k strict h)
             (member-map (λ id. smallerThan id union) u ids (known-member u ids b)),
         refl,
       ))
       (λ b. inl (empty k h ∙ sym (e ∙ widened-lacking union ids row even k h (λ s. clash (any-of (eqb u) u ids s (eq-eqb u u refl)) b))))
 
-  anywhere : (i : ℕ) → (getD cells i 0 ≡ getD goal i 0) ⊎ ((p : ℕ) × Member p (placesIn union ids) × (i ≡ at + p))
+  anywhere : (i : ℕ) → (getD cells i 0 ≡ getD goal i 0) ⊎ ((p : ℕ) × Member p (indicesIn union ids) × (i ≡ at + p))
   anywhere i =
       bool-cases (ltb i at)
       (λ b. inl (sym (paste-before cells at (widened union ids row) (length union) fits (omega (arith, wide)) i (ltb-true i at b))))
       (λ b. bool-cases (ltb i (at + length union))
       (λ q. let l = ltb-true i (at + length union) q in let g = ltb-false i at b in
       let e : at + (i - at) ≡ i = omega arith in
-      subst (λ (x : ℕ). (getD cells x 0 ≡ getD goal x 0) ⊎ ((p : ℕ) × Member p (placesIn union ids) × (x ≡ at + p))) e (within (i - at) (omega arith)))
+      subst (λ (x : ℕ). (getD cells x 0 ≡ getD goal x 0) ⊎ ((p : ℕ) × Member p (indicesIn union ids) × (x ≡ at + p))) e (within (i - at) (omega arith)))
       (λ q. inl (sym (paste-after cells at (widened union ids row) (length union) fits (omega (arith, wide)) i (ltb-false i (at + length union) q)))))
 
-  pub scatter-widened : scattered cells at (placesIn union ids) row ≡ goal
+  pub scatter-widened : scattered cells at (indicesIn union ids) row ≡ goal
   scatter-widened =
       let size : length goal ≡ length cells = length-paste cells at (widened union ids row) (length union) fits (omega (arith, wide)) in
-      let count : length (placesIn union ids) ≡ length ids = length-map ids (λ id. smallerThan id union) in
-      ext-getD 0 (scattered cells at (placesIn union ids) row) goal (scatter-size at (placesIn union ids) row cells ∙ sym size)
-      (λ i h. scatter-tells (smallerThan 0 union) goal at (placesIn union ids) row cells (even ∙ sym count) (λ j g. place-holds j (omega arith)) i (anywhere i))
+      let count : length (indicesIn union ids) ≡ length ids = length-map ids (λ id. smallerThan id union) in
+      ext-getD 0 (scattered cells at (indicesIn union ids) row) goal (scatter-size at (indicesIn union ids) row cells ∙ sym size)
+      (λ i h. scatter-tells (smallerThan 0 union) goal at (indicesIn union ids) row cells (even ∙ sym count) (λ j g. index-holds j (omega arith)) i (anywhere i))
 
--- a place of an id is within the union
-pub places-within : (union ids : List ℕ) → StrictlyAscending compareWord union → ((id : ℕ) → Member id ids → Member id union) → (p : ℕ) → Member p (placesIn union ids) → p < length union
-places-within union ids strict has p h =
+-- an index of an id is within the union
+pub indices-within : (union ids : List ℕ) → StrictlyAscending compareWord union → ((id : ℕ) → Member id ids → Member id union) → (p : ℕ) → Member p (indicesIn union ids) → p < length union
+indices-within union ids strict has p h =
     let m = map-member (λ id. smallerThan id union) p ids h in
     let s = smaller-member (m .0) union strict (has (m .0) (m .1)) in
     omega (arith, s .0, m .2)
 
--- places are counted in distinct ids as they are among the ids in order
-pub places-ordered : (all ids : List ℕ) → distinct eqb all ≡ true → placesIn all ids ≡ placesIn (ascending compareWord all) ids
-places-ordered all ids differ =
+-- indices are counted in distinct ids as they are among the ids in order
+pub indices-ordered : (all ids : List ℕ) → distinct eqb all ≡ true → indicesIn all ids ≡ indicesIn (ascending compareWord all) ids
+indices-ordered all ids differ =
     map-ext (λ id. smallerThan id all) (λ id. smallerThan id (ascending compareWord all)) ids (λ id s. sym (smaller-ascending id all differ))
 
--- ---- distinct ids, each written at the number of smaller ones, are ascending
+-- ---- distinct ids, each written at the count of smaller ones, are ascending
 
 own-cells : (f : ℕ → ℕ) (l : List ℕ) → ((x : ℕ) → Member x l → f x ≡ x) → map f l ≡ l
 own-cells f [] h = refl
 own-cells f (x ∷ l) h = ap₂ (λ (y : ℕ) (r : List ℕ). y ∷ r) (h x (inl refl)) (own-cells f l (λ y s. h y (inr s)))
 
 module _ (all cells cur : List ℕ) (differ : distinct eqb all ≡ true) (room : length all ≤ length cells) (empty : (k : ℕ) → getD cells k 0 ≡ 0)
-    (written : cur ≡ scattered cells 0 (placesIn all all) all) where
+    (written : cur ≡ scattered cells 0 (indicesIn all all) all) where
   abbrev sorted : List ℕ
   sorted = ascending compareWord all
 
@@ -193,6 +193,6 @@ module _ (all cells cur : List ℕ) (differ : distinct eqb all ≡ true) (room :
   ids-sorted =
       let count : length sorted ≡ length all = distinct-count all differ in
       let goal : cur ≡ paste cells 0 (widened sorted all all) (length sorted) =
-      written ∙ ap (λ (l : List ℕ). scattered cells 0 l all) (places-ordered all all differ)
+      written ∙ ap (λ (l : List ℕ). scattered cells 0 l all) (indices-ordered all all differ)
       ∙ scatter-widened sorted all all cells 0 (is-strict words all) differ (λ id s. ascending-has words id all s) refl (omega arith) (λ k h. empty (0 + k)) in
       (paste-front cells sorted cur (length all) count (goal ∙ ap₂ (λ (l : List ℕ) (n : ℕ). paste cells 0 l n) sorted-own count), sym count)

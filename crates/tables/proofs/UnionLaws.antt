@@ -19,10 +19,10 @@ use Rattle.definitions.proofs.Questions.{passed-is}
 use Rattle.definitions.proofs.Images.{widened-count}
 use Rattle.lists.proofs.Pastes.{paste-front}
 use Rattle.lists.proofs.Flat.{Wide, rows-wide, rows-local, rows-append, flat-rows-all, pasted-rows}
-use Rattle.rows.specs.Numbers.{rowAt, rowsAt, Ordered}
+use Rattle.rows.specs.Indices.{rowAt, rowsAt, Ordered}
 use Rattle.tables.specs.declared.Table.{Table}
-use Rattle.tables.specs.Table.{Found, NewTable, CellsOf, Holds}
-use Rattle.tables.specs.Places.{Covers}
+use Rattle.tables.specs.Table.{Found, NewTable, CellsOf, TableOf}
+use Rattle.tables.specs.UnionIds.{Covers}
 use Rattle.tables.proofs.IdLaws.{both-count}
 use Rattle.tables.proofs.Scatter.{paste-after}
 use Rattle.tables.proofs.WidenLaws.{widened-wide, widened-words}
@@ -32,7 +32,7 @@ widened-read union image =
     ap (λ (k : ℕ). rowsIn (length union) k (flatten (widenedRows union image))) (sym (widened-count union image))
     ∙ flat-rows-all (length union) (widenedRows union image) (widened-wide union image)
 
--- the words of r rows of at most 16 cells
+-- the words of r rows of at most maxColumns cells
 pub few-words : (r m w : ℕ) → r ≤ m → w ≤ maxColumns → r * w ≤ m * maxColumns
 few-words r m w h k = mul-le-mul h k
 
@@ -117,7 +117,7 @@ module _ {union a b cells : List ℕ} {n m w : ℕ} (d : Counted union a b cells
         (ap₂ (λ (c k : ℕ). rowsIn c k fa) (sym (d .columns)) (d .first-rows) ∙ widened-read union a)
         (ap₂ (λ (c k : ℕ). rowsIn c k fb) (sym (d .columns)) (d .second-rows) ∙ widened-read union b)
 
--- the distinct rows, written by their numbers
+-- the distinct rows, written by their indices
 pub cells-ordered : (w n m : ℕ) (wide order cells cur : List ℕ) → n * w ≤ length wide → m ≤ length order → Ordered w n wide (take m order)
     → cur ≡ paste cells 0 (flatten (rowsAt w wide (take m order))) (m * w) → rowsIn w m cur ≡ ascending compareRow (rowsIn w n wide)
 cells-ordered w n m wide order cells cur h k o e =
@@ -127,9 +127,9 @@ cells-ordered w n m wide order cells cur h k o e =
     pasted-rows w m rs cells cur even count (e ∙ ap (λ (l : List (List ℕ)). paste cells 0 (flatten l) (m * w)) (o .rows))
 
 -- a new table with the ids of both images, and rows in it
-pub filled-holds : {a b all : List ℕ} {rs : List (List ℕ)} {t : Table} → Found a b all → (new : Table) → NewTable all new
-    → t .ids ≡ new .ids → t .columns ≡ new .columns → CellsOf rs (length all) (t .rows) (t .cells) → Holds t (unionIds a b) rs
-filled-holds {a} {b} {all} {rs} {t} f new made ti tc cells =
+pub filled-table : {a b all : List ℕ} {rs : List (List ℕ)} {t : Table} → Found a b all → (new : Table) → NewTable all new
+    → t .ids ≡ new .ids → t .columns ≡ new .columns → CellsOf rs (length all) (t .rows) (t .cells) → TableOf t (unionIds a b) rs
+filled-table {a} {b} {all} {rs} {t} f new made ti tc cells =
     let wide : t .columns ≡ length all = tc ∙ made .columns in
     record {
       columns = wide ∙ sym (both-count a b all (f .ids));

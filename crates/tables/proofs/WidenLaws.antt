@@ -1,4 +1,4 @@
--- The rows of an image, widened one after the other: the places of its columns, and a turn of the loop. Assumes nothing.
+-- The rows of an image, widened one after the other: the indices of its columns, and a turn of the loop. Assumes nothing.
 use mathlib.Core.Path.{_≡_, sym, _∙_, ap, ap₂, subst}
 use mathlib.Core.List.{List, [], map, flatten}
 use Prim.Native.Nat.{ℕ, _+_, _-_, _*_, _≤_, _<_}
@@ -19,9 +19,9 @@ use Rattle.definitions.proofs.Images.{passed-ids, passed-rows, widened-count}
 use Rattle.lists.proofs.Flat.{Wide, flat-row, rows-length, rows-at, row-fits}
 use Rattle.lists.proofs.Pastes.{Pasted, paste-none, pasted-more, paste-front}
 use Rattle.images.proofs.Parts.{row-part}
-use Rattle.tables.specs.Places.{smallerThan, placesIn, scattered, Covers}
+use Rattle.tables.specs.UnionIds.{smallerThan, indicesIn, scattered, Covers}
 use Rattle.tables.proofs.IdLaws.{Columns}
-use Rattle.tables.proofs.Scatter.{paste-after, scatter-widened, places-within}
+use Rattle.tables.proofs.Scatter.{paste-after, scatter-widened, indices-within}
 
 widened-length : (union ids row : List ℕ) → length (widened union ids row) ≡ length union
 unfolding widened
@@ -41,7 +41,7 @@ widened-row : (union image : List ℕ) (i : ℕ) → getD (widenedRows union ima
 unfolding widenedRows
 widened-row union image i = List·getD-map (widened union (imageIds image)) (imageRows image) i []
 
--- the first i rows are written; the next one begins at `from`, and goes to `to`; k is the number of columns
+-- the first i rows are written; the next one begins at `from`, and goes to `to`; k is the count of columns
 pub record Widening (image union cells₀ : List ℕ) (at k i from to : ℕ) (cells : List ℕ) : Type 0 where
   pub accepted : imageNumber maxRows image ≡ 0
   pub columns : k ≡ columnCount image
@@ -88,16 +88,16 @@ module _ {image union cells₀ cells : List ℕ} {at k i from to : ℕ} (v : Wid
       ap length row-is ∙ passed-rows maxRows image p (getD (imageRows image) i []) (member-get [] (imageRows image) i (omega arith))
       ∙ sym (passed-ids maxRows image p)
 
-  module _ (places : List ℕ) (covers : Covers union image) (ep : places ≡ placesIn union (imageIds image)) where
-    -- each cell of the row has a place, within the cells
-    pub cells-within : (length (take (from + k - from) (drop from image)) ≤ length places) × ((p : ℕ) → Member p places → to + p < length cells)
+  module _ (indices : List ℕ) (covers : Covers union image) (ep : indices ≡ indicesIn union (imageIds image)) where
+    -- each cell of the row has an index, within the cells
+    pub cells-within : (length (take (from + k - from) (drop from image)) ≤ length indices) × ((p : ℕ) → Member p indices → to + p < length cells)
     cells-within =
-        let count : length places ≡ length (imageIds image) = ap length ep ∙ length-map (imageIds image) _ in
+        let count : length indices ≡ length (imageIds image) = ap length ep ∙ length-map (imageIds image) _ in
         let e = row-even in
         let f = target-within in
         let z = v .written .size in (
           omega arith,
-          λ p h. let w = places-within union (imageIds image) (covers .strict) (covers .has) p (subst (Member p) ep h) in omega arith,
+          λ p h. let w = indices-within union (imageIds image) (covers .strict) (covers .has) p (subst (Member p) ep h) in omega arith,
         )
 
     -- what is not yet written is empty
@@ -112,7 +112,7 @@ module _ {image union cells₀ cells : List ℕ} {at k i from to : ℕ} (v : Wid
         ∙ empty (to + j) (omega arith)
 
     pub widen-turn : ((j : ℕ) → at ≤ j → getD cells₀ j 0 ≡ 0) → (new : List ℕ)
-        → new ≡ scattered cells to places (take (from + k - from) (drop from image)) → Widening image union cells₀ at k (i + 1) (from + k) (to + length union) new
+        → new ≡ scattered cells to indices (take (from + k - from) (drop from image)) → Widening image union cells₀ at k (i + 1) (from + k) (to + length union) new
     widen-turn empty new e =
         let w = length union in
         let ids = imageIds image in
@@ -146,10 +146,10 @@ module _ {image union cells₀ cells : List ℕ} {at k i from to : ℕ} (v : Wid
           written = rw (step w) p;
         }
 
--- the places of the columns of an image, as the code writes them
-pub places-written : (union image part d cur : List ℕ) (k : ℕ) → Columns k image part → cur ≡ paste d 0 (placesIn union (map idOf part)) (length part)
-    → take k cur ≡ placesIn union (imageIds image)
-places-written union image part d cur k u e =
+-- the indices of the columns of an image, as the code writes them
+pub indices-written : (union image part d cur : List ℕ) (k : ℕ) → Columns k image part → cur ≡ paste d 0 (indicesIn union (map idOf part)) (length part)
+    → take k cur ≡ indicesIn union (imageIds image)
+indices-written union image part d cur k u e =
     let count : length (imageIds image) ≡ k = sym (ap length (u .ids)) ∙ length-map part idOf ∙ u .size in
-    paste-front d (placesIn union (imageIds image)) cur k (length-map (imageIds image) (λ id. smallerThan id union) ∙ count)
-    (e ∙ ap₂ (λ (l : List ℕ) (n : ℕ). paste d 0 (placesIn union l) n) (u .ids) (u .size))
+    paste-front d (indicesIn union (imageIds image)) cur k (length-map (imageIds image) (λ id. smallerThan id union) ∙ count)
+    (e ∙ ap₂ (λ (l : List ℕ) (n : ℕ). paste d 0 (indicesIn union l) n) (u .ids) (u .size))

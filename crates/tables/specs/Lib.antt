@@ -1,3 +1,3 @@
 -- Words of the contracts on the table in work and on widened rows.
-pub mod Places
+pub mod UnionIds
 pub mod Table

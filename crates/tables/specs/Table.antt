@@ -1,14 +1,18 @@
 -- What a table in work holds, and what is written into it.
 use mathlib.Core.Path.{_≡_}
-use mathlib.Core.List.{List, _++_}
-use Prim.Native.Nat.{ℕ, _*_, _≤_}
+use mathlib.Core.Bool.{true}
+use mathlib.Core.List.{List, _++_, flatten}
+use Prim.Native.Nat.{ℕ, _+_, _*_, _≤_}
+use lib.Dec.{eqb}
 use lib.ListN.{length, getD, take}
+use lib.Seq.{paste}
+use Rattle.definitions.specs.Lists.{distinct}
 use Rattle.definitions.specs.Limits.{maxColumns, maxRows, maxUnionRows}
-use Rattle.definitions.specs.Image.{rowsIn}
+use Rattle.definitions.specs.Image.{rowsIn, rowCount}
 use Rattle.definitions.specs.OuterUnion.{widenedRows, unionIds}
 use Rattle.definitions.specs.Questions.{imageNumber}
 use Rattle.tables.specs.declared.Table.{Table}
-use Rattle.tables.specs.Places.{inOrder, BothIds}
+use Rattle.tables.specs.UnionIds.{inOrder, BothIds, Covers}
 
 -- the rows of two images, each with a cell for every column of the union, one after the other
 abbrev pub bothRows : List ℕ → List ℕ → List (List ℕ)
@@ -20,6 +24,29 @@ pub record Found (a b all : List ℕ) : Type 0 where
   pub second : imageNumber maxRows b ≡ 0
   pub ids : BothIds a b all
   pub few : length all ≤ maxColumns
+
+-- an accepted image, and distinct ids, its own among them
+pub record Source (image all : List ℕ) : Type 0 where
+  pub accepted : imageNumber maxRows image ≡ 0
+  pub differ : distinct eqb all ≡ true
+  pub covers : Covers (inOrder all) image
+
+-- the cells from `at` on are empty, and have room for the widened rows of an image
+pub record EmptyFor (image all cells : List ℕ) (at : ℕ) : Type 0 where
+  pub room : at + rowCount image * length (inOrder all) ≤ length cells
+  pub empty : (k : ℕ) → at ≤ k → getD cells k 0 ≡ 0
+
+-- the widened rows of an image are written over the cells from `at`
+abbrev pub Widened : List ℕ → List ℕ → List ℕ → ℕ → List ℕ → Type 0
+Widened image all found at cells =
+    cells ≡ paste found at (flatten (widenedRows (inOrder all) image)) (rowCount image * length (inOrder all))
+
+-- n rows of so many cells, and the cells of a table to write them to
+pub record Unordered (width n : ℕ) (wide cells : List ℕ) : Type 0 where
+  pub few-columns : width ≤ maxColumns
+  pub few-rows : n ≤ maxUnionRows
+  pub fits : n * width ≤ length wide
+  pub room : maxUnionRows * maxColumns ≤ length cells
 
 -- a table with these ids in order, no rows and empty cells
 pub record NewTable (all : List ℕ) (t : Table) : Type 0 where
@@ -36,7 +63,7 @@ pub record CellsOf (rows : List (List ℕ)) (width n : ℕ) (cells : List ℕ) :
   pub cell-words : length cells ≡ maxUnionRows * maxColumns
 
 -- the table with these column ids and rows
-pub record Holds (t : Table) (union : List ℕ) (rows : List (List ℕ)) : Type 0 where
+pub record TableOf (t : Table) (union : List ℕ) (rows : List (List ℕ)) : Type 0 where
   pub columns : t .columns ≡ length union
   pub ids : take (t .columns) (t .ids) ≡ union
   pub rows-are : rowsIn (t .columns) (t .rows) (t .cells) ≡ rows

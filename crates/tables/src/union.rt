@@ -1,13 +1,12 @@
 // T, the outer union of two accepted images, in a table in work. The columns' ids may stand in any order, as they do before they are in the
-// table: a column's place is the number of smaller ids.
+// table: a column's index is the count of smaller ids.
 ghost use mathlib.Core.Path.{_≡_};
 ghost use Prim.Native.Nat.{ℕ, _*_, _≤_};
 ghost use lib.ListN.{length, getD};
-ghost use Rattle.definitions.specs.Limits.{maxColumns, maxUnionRows};
 ghost use Rattle.definitions.specs.Image.{rowsIn};
 ghost use Rattle.definitions.specs.Ascending.{ascending};
 ghost use Rattle.definitions.specs.OuterUnion.{compareRow, unionRows};
-ghost use Rattle.tables.specs.Table.{bothRows, Found, CellsOf};
+ghost use Rattle.tables.specs.Table.{bothRows, Found, Unordered, CellsOf};
 use crate::Table;
 use crate::widen::widen_table;
 
@@ -26,8 +25,7 @@ pub fn widen_both(a: &[u32], b: &[u32], all: &[u32], cells: &mut [u32; Table::MA
 
 // Writes the distinct rows among the first n, ascending; how many they are.
 fn order_cells(wide: &[u32], width: usize, n: usize, cells: &mut [u32]) -> usize
-    requires { ⌜ (width ≤ maxColumns) × (n ≤ maxUnionRows) × (n * width ≤ length (now wide))
-        × (maxUnionRows * maxColumns ≤ length (now cells)) ⌝ }
+    requires { ⌜ Unordered width n (now wide) (now cells) ⌝ }
     ensures { λ r. ⌜ (rowsIn width r (now (cells .exit)) ≡ ascending compareRow (rowsIn width n (now (wide .entry))))
         × (r ≤ n) ⌝ }
 {

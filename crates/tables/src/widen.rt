@@ -1,58 +1,50 @@
 // The rows of an image, widened to the columns of a union.
 ghost use mathlib.Core.Path.{_≡_};
-ghost use mathlib.Core.Bool.{true};
-ghost use mathlib.Core.List.{map, flatten};
-ghost use Prim.Native.Nat.{ℕ, _+_, _*_, _≤_, _<_};
-ghost use lib.Dec.{eqb};
-ghost use lib.ListN.{length, getD};
+ghost use mathlib.Core.List.{map};
+ghost use Prim.Native.Nat.{ℕ, _+_, _≤_, _<_};
+ghost use lib.ListN.{length};
 ghost use lib.Seq.{paste};
-ghost use Rattle.definitions.specs.Limits.{maxColumns, maxRows, maxIds};
-ghost use Rattle.definitions.specs.Lists.{distinct};
+ghost use Rattle.definitions.specs.Limits.{maxColumns, maxIds};
 ghost use Rattle.definitions.specs.Word.{idOf};
-ghost use Rattle.definitions.specs.Image.{imageIds, rowCount};
-ghost use Rattle.definitions.specs.OuterUnion.{widenedRows};
+ghost use Rattle.definitions.specs.Image.{imageIds};
 ghost use Rattle.definitions.specs.Statements.{Member};
-ghost use Rattle.definitions.specs.Questions.{imageNumber};
-ghost use Rattle.tables.specs.Places.{placesIn, scattered, inOrder, Covers};
+ghost use Rattle.tables.specs.UnionIds.{indicesIn, scattered, inOrder};
+ghost use Rattle.tables.specs.Table.{Source, EmptyFor, Widened};
 use crate::Table;
 use crate::columns::smaller;
 
 // Where each column word's id stands among the union's ids, once these are in order.
-fn column_places(columns: &[u32], union: &[u32], places: &mut [usize])
-    requires { ⌜ (length (now columns) ≤ length (now places)) × (length (now union) ≤ maxIds) ⌝ }
-    ensures { λ r. ⌜ now (places .exit) ≡ paste (now (places .entry)) 0
-        (placesIn (now (union .entry)) (map idOf (now (columns .entry)))) (length (now (columns .entry))) ⌝ }
+fn column_indices(columns: &[u32], union: &[u32], indices: &mut [usize])
+    requires { ⌜ (length (now columns) ≤ length (now indices)) × (length (now union) ≤ maxIds) ⌝ }
+    ensures { λ r. ⌜ now (indices .exit) ≡ paste (now (indices .entry)) 0
+        (indicesIn (now (union .entry)) (map idOf (now (columns .entry)))) (length (now (columns .entry))) ⌝ }
 {
     let mut j = 0;
     while j < columns.len() {
-        places[j] = smaller(union, words::id(columns[j]));
+        indices[j] = smaller(union, words::id(columns[j]));
         j += 1;
     }
 }
 
-// Writes each cell of a row at its place from at.
-fn widen_row(row: &[u32], places: &[usize], cells: &mut [u32], at: usize)
-    requires { ⌜ (length (now row) ≤ length (now places))
-        × ((p : ℕ) → Member p (now places) → at + p < length (now cells)) ⌝ }
-    ensures { λ r. ⌜ now (cells .exit) ≡ scattered (now (cells .entry)) at (now (places .entry)) (now (row .entry)) ⌝ }
+// Writes each cell of a row at its index from at.
+fn widen_row(row: &[u32], indices: &[usize], cells: &mut [u32], at: usize)
+    requires { ⌜ (length (now row) ≤ length (now indices))
+        × ((p : ℕ) → Member p (now indices) → at + p < length (now cells)) ⌝ }
+    ensures { λ r. ⌜ now (cells .exit) ≡ scattered (now (cells .entry)) at (now (indices .entry)) (now (row .entry)) ⌝ }
 {
     let mut j = 0;
     while j < row.len() {
-        cells[at + places[j]] = row[j];
+        cells[at + indices[j]] = row[j];
         j += 1;
     }
 }
 
-// Writes the rows of an accepted image, each cell at its place, over the cells from at.
-fn widen_rows(image: &[u32], all: &[u32], places: &[usize], cells: &mut [u32], at: usize)
-    requires { ⌜ (imageNumber maxRows (now image) ≡ 0) × (distinct eqb (now all) ≡ true)
-        × Covers (inOrder (now all)) (now image)
-        × (now places ≡ placesIn (inOrder (now all)) (imageIds (now image))) ⌝ }
-    requires { ⌜ (at + rowCount (now image) * length (inOrder (now all)) ≤ length (now cells))
-        × ((k : ℕ) → at ≤ k → getD (now cells) k 0 ≡ 0) ⌝ }
-    ensures { λ r. ⌜ now (cells .exit) ≡ paste (now (cells .entry)) at
-        (flatten (widenedRows (inOrder (now (all .entry))) (now (image .entry))))
-        (rowCount (now (image .entry)) * length (inOrder (now (all .entry)))) ⌝ }
+// Writes the rows of an accepted image, each cell at its index, over the cells from at.
+fn widen_rows(image: &[u32], all: &[u32], indices: &[usize], cells: &mut [u32], at: usize)
+    requires { ⌜ Source (now image) (now all)
+        × (now indices ≡ indicesIn (inOrder (now all)) (imageIds (now image)))
+        × EmptyFor (now image) (now all) (now cells) at ⌝ }
+    ensures { λ r. ⌜ Widened (now (image .entry)) (now (all .entry)) (now (cells .entry)) at (now (cells .exit)) ⌝ }
 {
     let header = image[0];
     let columns = words::columns(header) as usize;
@@ -63,7 +55,7 @@ fn widen_rows(image: &[u32], all: &[u32], places: &[usize], cells: &mut [u32], a
     let mut to = at;
     while i < rows {
         let end = from + columns;
-        widen_row(&image[from..end], places, cells, to);
+        widen_row(&image[from..end], indices, cells, to);
         from = end;
         to += width;
         i += 1;
@@ -72,18 +64,13 @@ fn widen_rows(image: &[u32], all: &[u32], places: &[usize], cells: &mut [u32], a
 
 // Writes the rows of an accepted image, widened to columns with these ids in order, over the empty cells from at.
 pub(crate) fn widen_table(image: &[u32], all: &[u32], cells: &mut [u32], at: usize)
-    requires { ⌜ (imageNumber maxRows (now image) ≡ 0) × (distinct eqb (now all) ≡ true)
-        × Covers (inOrder (now all)) (now image)
-        × (length (now all) ≤ maxColumns) ⌝ }
-    requires { ⌜ (at + rowCount (now image) * length (inOrder (now all)) ≤ length (now cells))
-        × ((k : ℕ) → at ≤ k → getD (now cells) k 0 ≡ 0) ⌝ }
-    ensures { λ r. ⌜ now (cells .exit) ≡ paste (now (cells .entry)) at
-        (flatten (widenedRows (inOrder (now (all .entry))) (now (image .entry))))
-        (rowCount (now (image .entry)) * length (inOrder (now (all .entry)))) ⌝ }
+    requires { ⌜ Source (now image) (now all) × (length (now all) ≤ maxColumns)
+        × EmptyFor (now image) (now all) (now cells) at ⌝ }
+    ensures { λ r. ⌜ Widened (now (image .entry)) (now (all .entry)) (now (cells .entry)) at (now (cells .exit)) ⌝ }
 {
-    let mut places = [0usize; Table::MAX_COLUMNS];
+    let mut indices = [0usize; Table::MAX_COLUMNS];
     let columns = words::columns(image[0]) as usize;
     let end = 1 + columns;
-    column_places(&image[1..end], all, &mut places);
-    widen_rows(image, all, &places[..columns], cells, at);
+    column_indices(&image[1..end], all, &mut indices);
+    widen_rows(image, all, &indices[..columns], cells, at);
 }

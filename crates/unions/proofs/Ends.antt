@@ -11,7 +11,7 @@ use Rattle.definitions.specs.Promise.{TablePromise}
 use Rattle.definitions.proofs.Outcomes.{unless-passed, unless-refused}
 use Rattle.images.specs.declared.write.Put.{Put}
 use Rattle.images.specs.Writing.{PutImage}
-use Rattle.rows.specs.Numbers.{rowsAt}
+use Rattle.rows.specs.Indices.{rowsAt}
 use Rattle.tables.specs.declared.Table.{Table}
 use Rattle.tables.specs.Table.{Found}
 use Rattle.unions.specs.declared.questions.Checks.{Checks}

@@ -25,9 +25,9 @@ use Rattle.patterns.specs.Columns.{ColumnsOf}
 use Rattle.fusing.specs.Fused.{SetsOf, RoomFor, FusedOf}
 use Rattle.set_lists.specs.Records.{listOf, Listable}
 use Rattle.set_lists.proofs.Written.{positions-below, list-written}
-use Rattle.rows.specs.Numbers.{rowsAt, Below}
+use Rattle.rows.specs.Indices.{rowsAt, Below}
 use Rattle.tables.specs.declared.Table.{Table}
-use Rattle.tables.specs.Table.{Found, Holds}
+use Rattle.tables.specs.Table.{Found, TableOf}
 use Rattle.unions.specs.Questions.{Roomy}
 use Rattle.unions.specs.Fused.{WorkTable, ListedTable, fusedOutcome, FusedInto, FusedUnion}
 use Rattle.unions.proofs.Pairs.{pair-accepted}
@@ -179,7 +179,7 @@ module _ {all : List ℕ} {width : ℕ} {cells : List ℕ} {n : ℕ} (w : WorkTa
 -- ---- the call
 
 -- T in a table in work
-module _ {a b all : List ℕ} (f : Found a b all) {t : Table} (h : Holds t (unionIds a b) (unionRows a b)) where
+module _ {a b all : List ℕ} (f : Found a b all) {t : Table} (h : TableOf t (unionIds a b) (unionRows a b)) where
   pub work-table : WorkTable (t .ids) (t .columns) (t .cells) (t .rows)
   work-table = record {
     few-columns = h .few-columns;

@@ -12,7 +12,7 @@ use Rattle.definitions.specs.Answer.{Outcome, refused, unless}
 use Rattle.definitions.specs.Calls.{pairNumber}
 use Rattle.definitions.proofs.Outcomes.{unless-passed, unless-refused, asked-no, asked-yes}
 use Rattle.unions.specs.declared.questions.Checks.{Checks}
-use Rattle.tables.specs.Places.{BothIds}
+use Rattle.tables.specs.UnionIds.{BothIds}
 use Rattle.tables.specs.Table.{Found}
 use Rattle.tables.proofs.IdLaws.{both-count}
 use Rattle.unions.specs.Questions.{Checked}

@@ -11,14 +11,14 @@ use Rattle.definitions.specs.OuterUnion.{compareRow, unionIds, unionRows}
 use Rattle.definitions.specs.MinimumUnion.{minimumRows}
 use Rattle.definitions.proofs.Lists.{member-get}
 use Rattle.definitions.proofs.TableWords.{small-ids}
-use Rattle.rows.specs.Numbers.{rowsAt, Below, Ordered}
-use Rattle.rows.proofs.Numbers.{below-fit}
+use Rattle.rows.specs.Indices.{rowsAt, Below, Ordered}
+use Rattle.rows.proofs.Indices.{below-fit}
 use Rattle.images.specs.Writing.{Writable}
 use Rattle.tables.specs.declared.Table.{Table}
-use Rattle.tables.specs.Table.{bothRows, Found, Holds}
+use Rattle.tables.specs.Table.{bothRows, Found, TableOf}
 use Rattle.minimum.specs.Trying.{KeptRows}
 
-module _ {u : List ℕ} {rows : List (List ℕ)} {t : Table} (h : Holds t u rows) where
+module _ {u : List ℕ} {rows : List (List ℕ)} {t : Table} (h : TableOf t u rows) where
   pub ids-there : t .columns ≤ length (t .ids)
   ids-there = omega (arith, h .id-words, h .few-columns)
 
@@ -26,7 +26,7 @@ module _ {u : List ℕ} {rows : List (List ℕ)} {t : Table} (h : Holds t u rows
   cells-there = let f = mul-le-mul (h .few-rows) (h .few-columns) in omega (arith, h .cell-words)
 
 -- f tells which pair it is
-module _ {a b all : List ℕ} (f : Found a b all) {rows : List (List ℕ)} {t : Table} (h : Holds t (unionIds a b) rows) where
+module _ {a b all : List ℕ} (f : Found a b all) {rows : List (List ℕ)} {t : Table} (h : TableOf t (unionIds a b) rows) where
   -- column ids have 16 bits
   pub ids-small : (k : ℕ) → k < t .columns → getD (t .ids) k 0 < 2 ^ 16
   ids-small k lt =
@@ -55,7 +55,7 @@ pub record Result (u : List ℕ) (rows : List (List ℕ)) (t : Table) (order : L
 
 module _ {a b all : List ℕ} (f : Found a b all) {t : Table} {m : ℕ} {order : List ℕ} (within : m ≤ length order) where
   -- the distinct widened rows, ascending, are T
-  pub outer-result : Holds t (unionIds a b) (bothRows a b) → m ≤ t .rows → Ordered (t .columns) (t .rows) (t .cells) (take m order)
+  pub outer-result : TableOf t (unionIds a b) (bothRows a b) → m ≤ t .rows → Ordered (t .columns) (t .rows) (t .cells) (take m order)
       → Result (unionIds a b) (unionRows a b) t order m
   unfolding unionRows
   outer-result h few o = record {
@@ -65,7 +65,7 @@ module _ {a b all : List ℕ} (f : Found a b all) {t : Table} {m : ℕ} {order :
   }
 
   -- the rows of T that none subsumes are the minimum union
-  pub minimum-result : Holds t (unionIds a b) (unionRows a b) → {pairs : ℕ} → KeptRows (t .columns) (t .rows) (t .cells) order m pairs
+  pub minimum-result : TableOf t (unionIds a b) (unionRows a b) → {pairs : ℕ} → KeptRows (t .columns) (t .rows) (t .cells) order m pairs
       → Result (unionIds a b) (minimumRows (unionRows a b)) t order m
   minimum-result h k = record {
     can = writable f h m order (k .count) within (k .below);

@@ -49,14 +49,4 @@ returns c =
     omega (arith, l .inv .1 n h .1, ap (sizeBelow n) none, size-none n)
 
 pub size-spec : {M : Type 1} → statement M
-size-spec =
-    tie.close
-    (tie.spec
-    Inv-loop
-    μ-loop
-    loop-holds
-    without-lowest-requires
-    add-count
-    loop-less
-    loop-again
-    returns)
+size-spec = tie.close (tie.spec Inv-loop μ-loop loop-holds without-lowest-requires add-count loop-less loop-again returns)

@@ -4,11 +4,11 @@ use Prim.Native.Nat.{_<_, _≤_}
 use native.Mathlib.Omega.{arith}
 use lib.ListN.{length}
 use borrow.Author.Needs.{needs}
-use Rattle.definitions.specs.Limits.{maxUnionRows}
-use Rattle.bitsets.specs.Bits.{rowsBelow}
+use Rattle.bitsets.specs.Bits.{rowsBelow, wordBits}
 use Rattle.cliques.proofs.Complete.{none-found, all-rows, start-rows, many-found, all-found}
 use Rattle.cliques.proofs.find_sets.Statement.{statement}
 use Rattle.cliques.proofs.find_sets.Tie as tie
+use Rattle.bitsets.proofs.Words.{in-word}
 
 -- where the rows are a set
 module _ (w : tie.After-with-row) where
@@ -47,7 +47,7 @@ list-parts-requires : tie.Need-list-parts-requires
 list-parts-requires c κs =
     let w = c .before in
     let q = start w in
-    (start-rows (q .args .neighbours .now) (q .args .n) (q .pre .0) maxUnionRows (w .with-row .result) (q .pre .1) (all w), q .pre .2)
+    (start-rows (q .args .neighbours .now) (q .args .n) (q .pre .0) wordBits (w .with-row .result) (in-word (q .pre .1)) (all w), q .pre .2)
 
 returns-2 : tie.Need-returns-2
 returns-2 c =
@@ -55,7 +55,7 @@ returns-2 c =
     let w = rows k in
     let q = start w in (
       k .list-parts .ensures .1,
-      many-found (q .args .neighbours .now) (q .args .n) (q .pre .0) maxUnionRows (q .pre .1) (k .list-parts .last .1 .1 .0) (k .list-parts .result) (w .with-row .result) (some w) (room k)
+      many-found (q .args .neighbours .now) (q .args .n) (q .pre .0) wordBits (in-word (q .pre .1)) (k .list-parts .last .1 .1 .0) (k .list-parts .result) (w .with-row .result) (some w) (room k)
           (k .list-parts .ensures .0) (all w) (k .list-parts .ensures .2) (c .if2 .taken),
     )
 
@@ -68,20 +68,10 @@ returns-3 c =
     let w = rows k in
     let q = start w in (
       c .order-sets .kept .0 ∙ k .list-parts .ensures .1,
-      all-found (q .args .neighbours .now) (q .args .n) (q .pre .0) maxUnionRows (q .pre .1) (k .list-parts .last .1 .1 .0) (k .list-parts .result) (w .with-row .result) (some w) (room k)
+      all-found (q .args .neighbours .now) (q .args .n) (q .pre .0) wordBits (in-word (q .pre .1)) (k .list-parts .last .1 .1 .0) (k .list-parts .result) (w .with-row .result) (some w) (room k)
           (k .list-parts .ensures .0) (all w) (k .list-parts .ensures .2) (omega (arith, c .before .before .if2 .left)) (c .order-sets .last .0) (c .order-sets .result)
           (omega (arith, room k, c .order-sets .kept .0, c .order-sets .ensures .0)) (c .order-sets .ensures .1),
     )
 
 pub find-sets-spec : {M : Type 1} → statement M
-find-sets-spec =
-    tie.close
-    (tie.spec
-    returns
-    sub-last
-    below-requires
-    with-row-requires
-    list-parts-requires
-    returns-2
-    order-sets-requires
-    returns-3)
+find-sets-spec = tie.close (tie.spec returns sub-last below-requires with-row-requires list-parts-requires returns-2 order-sets-requires returns-3)

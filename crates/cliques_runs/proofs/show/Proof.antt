@@ -57,19 +57,6 @@ pub show-spec : {M : Type 1} → statement M
 show-spec =
     tie.close
     (tie.spec
-    slice-aggregate-build
-    build-requires
-    write-all-requires
-    slice-aggregate-is-graph
-    is-graph-requires
-    find-sets-requires
-    print-decimal-requires
-    slice-aggregate-write-all
-    write-all-requires-2
-    slice-aggregate-sets
-    sets-requires
-    slice-aggregate-write-all-2
-    write-all-requires-3
-    returns
-    returns-2
-    returns-3)
+    slice-aggregate-build build-requires write-all-requires slice-aggregate-is-graph is-graph-requires find-sets-requires print-decimal-requires
+    slice-aggregate-write-all write-all-requires-2 slice-aggregate-sets sets-requires slice-aggregate-write-all-2 write-all-requires-3 returns
+    returns-2 returns-3)

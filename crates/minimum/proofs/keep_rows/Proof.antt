@@ -1,6 +1,6 @@
--- `keep_rows` meets its contract. The loop's invariant: the numbers written name those of the first k rows that stay. Assumes nothing.
+-- `keep_rows` meets its contract. The loop's invariant: the indices written name those of the first k rows that stay. Assumes nothing.
 use borrow.Author.Needs.{needs}
-use Prim.Native.Nat.{_-_, _≤_, _<_}
+use Prim.Native.Nat.{ℕ, _-_, _≤_, _<_}
 use mathlib.Core.Path.{_≡_, refl, _∙_}
 use native.Mathlib.Omega.{arith}
 use lib.ListN.{length, length-set}
@@ -11,11 +11,11 @@ use Rattle.minimum.proofs.keep_rows.Statement.{statement}
 use Rattle.minimum.proofs.keep_rows.Tie as tie
 
 abbrev Inv-loop : tie.InvT-loop
-Inv-loop cells counts fuller columns n width kept₀ rows₀ pairs₀ k₀ kept rows pairs k =
-    (k ≤ n) × (length kept ≡ length kept₀) × KeptTo width n cells kept rows pairs k
+Inv-loop cells counts fuller columns width kept₀ rows₀ pairs₀ k₀ kept rows pairs k =
+    (k ≤ length counts) × (length kept ≡ length kept₀) × KeptTo width (length counts) cells kept rows pairs k
 
 abbrev μ-loop : tie.MeasureT-loop
-μ-loop cells counts fuller columns n width kept₀ rows₀ pairs₀ k₀ kept rows pairs k = n - k
+μ-loop cells counts fuller columns width kept₀ rows₀ pairs₀ k₀ kept rows pairs k = length counts - k
 
 -- where the row has been tried
 module _ (c : tie.After-try-row Inv-loop μ-loop) where
@@ -25,16 +25,19 @@ module _ (c : tie.After-try-row Inv-loop μ-loop) where
   abbrev start : tie.Start Inv-loop μ-loop
   start = turn .before .before .before .before .before .before
 
-  few : start .args .n ≤ maxUnionRows
+  abbrev n : ℕ
+  n = length (start .args .counts .now)
+
+  few : n ≤ maxUnionRows
   few = start .pre .0 .few
 
-  fewer-pairs : c .try-row .result .pairs < start .args .n
-  fewer-pairs = omega (arith, c .try-row .ensures .fewer, rows-length (start .args .width) (start .args .n) (start .args .cells .now))
+  fewer-pairs : c .try-row .result .pairs < n
+  fewer-pairs = omega (arith, c .try-row .ensures .fewer, rows-length (start .args .width) n (start .args .cells .now))
 
 loop-holds : tie.Need-loop-holds Inv-loop μ-loop
 loop-holds c =
     let a = c .before .before .before .before .before .args in
-    (search needs, refl, kept-none (a .width) (a .n) (a .cells .now) (a .kept .now))
+    (search needs, refl, kept-none (a .width) (length (a .counts .now)) (a .cells .now) (a .kept .now))
 
 try-row-requires : tie.Need-try-row-requires Inv-loop μ-loop
 try-row-requires c κs = search needs
@@ -97,20 +100,5 @@ pub keep-rows-spec : {M : Type 1} → statement M
 keep-rows-spec =
     tie.close
     (tie.spec
-    Inv-loop
-    μ-loop
-    loop-holds
-    try-row-requires
-    add-pairs
-    add-k
-    loop-less
-    loop-again
-    cast-kept
-    mul-kept
-    slice-write-kept
-    add-rows
-    add-k-2
-    loop-less-2
-    loop-again-2
-    same-length
-    returns)
+    Inv-loop μ-loop loop-holds try-row-requires add-pairs add-k loop-less loop-again cast-kept mul-kept slice-write-kept add-rows add-k-2
+    loop-less-2 loop-again-2 same-length returns)

@@ -70,16 +70,4 @@ pub count-rows-spec : {M : Type 1} → statement M
 count-rows-spec =
     tie.close
     (tie.spec
-    Inv-loop
-    μ-loop
-    mul-end
-    loop-holds
-    mul-bit
-    shared-slice-read-bit
-    bit-requires
-    cast-total
-    add-total
-    add-i
-    loop-less
-    loop-again
-    returns)
+    Inv-loop μ-loop mul-end loop-holds mul-bit shared-slice-read-bit bit-requires cast-total add-total add-i loop-less loop-again returns)

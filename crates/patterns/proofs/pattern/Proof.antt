@@ -59,15 +59,4 @@ pub pattern-spec : {M : Type 1} → statement M
 pattern-spec =
     tie.close
     (tie.spec
-    Inv-loop
-    μ-loop
-    loop-holds
-    mul-bit
-    shared-slice-read-bit
-    bit-requires
-    cast-p
-    shl-p
-    add-i
-    loop-less
-    loop-again
-    returns)
+    Inv-loop μ-loop loop-holds mul-bit shared-slice-read-bit bit-requires cast-p shl-p add-i loop-less loop-again returns)

@@ -8,7 +8,7 @@ use lib.ListN.{length, getD, set, take, length-set}
 use lib.Seq.{length-take-le, getD-take}
 use Rattle.definitions.specs.Limits.{maxSets, setWidth}
 use Rattle.lists.proofs.Pastes.{Pasted, paste-none}
-use Rattle.rows.proofs.Numbers.{below-at}
+use Rattle.rows.proofs.Indices.{below-at}
 use Rattle.set_lists.specs.Records.{recordsOf}
 use Rattle.set_lists.proofs.Records.{records-turn, records-end}
 use Rattle.set_lists.proofs.write_list.Statement.{statement}

@@ -31,13 +31,4 @@ returns c =
     ap (λ (x : List ℕ). take (s .from) (s .list .now) ++ (x ++ drop (s .to - s .from) (drop (s .from) (s .list .now)))) (c .before .before .add-to-each .ensures)
 
 pub add-rows-spec : {M : Type 1} → statement M
-add-rows-spec =
-    tie.close
-    (tie.spec
-    mul-add-to-each
-    sub-add-to-each
-    part-add-to-each-start
-    part-add-to-each-end
-    add-to-each-requires
-    same-length
-    returns)
+add-rows-spec = tie.close (tie.spec mul-add-to-each sub-add-to-each part-add-to-each-start part-add-to-each-end add-to-each-requires same-length returns)

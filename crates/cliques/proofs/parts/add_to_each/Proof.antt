@@ -58,16 +58,4 @@ pub add-to-each-spec : {M : Type 1} → statement M
 add-to-each-spec =
     tie.close
     (tie.spec
-    Inv-loop
-    μ-loop
-    loop-holds
-    mul-unite
-    slice-read-unite
-    unite-requires
-    mul-list
-    slice-write-list
-    add-k
-    loop-less
-    loop-again
-    same-length
-    returns)
+    Inv-loop μ-loop loop-holds mul-unite slice-read-unite unite-requires mul-list slice-write-list add-k loop-less loop-again same-length returns)

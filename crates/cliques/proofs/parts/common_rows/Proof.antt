@@ -1,7 +1,6 @@
 -- `common_rows` keeps the rows of a part that complement all others of it. The invariant: those kept do, and the rows that are left are of the part.
 use mathlib.Core.Path.{sym, _∙_}
 use native.Mathlib.Omega.{arith}
-use lib.ListN.{length}
 use borrow.Author.Needs.{needs}
 use Rattle.bitsets.specs.Bits.{Sub}
 use Rattle.bitsets.proofs.Bits.{at-lowest, rest-less, rest-sub}
@@ -103,18 +102,5 @@ pub common-rows-spec : {M : Type 1} → statement M
 common-rows-spec =
     tie.close
     (tie.spec
-    Inv-loop
-    μ-loop
-    loop-holds
-    lowest-row-requires
-    without-lowest-requires
-    mul-with-row
-    shared-slice-read-with-row
-    with-row-requires
-    is-sub-requires
-    with-row-requires-2
-    loop-less
-    loop-again
-    loop-less-2
-    loop-again-2
-    returns)
+    Inv-loop μ-loop loop-holds lowest-row-requires without-lowest-requires mul-with-row shared-slice-read-with-row with-row-requires is-sub-requires
+    with-row-requires-2 loop-less loop-again loop-less-2 loop-again-2 returns)

@@ -4,13 +4,14 @@ use mathlib.Core.List.{List}
 use Prim.Native.Nat.{ℕ, suc, _≤_}
 use native.Mathlib.Omega.{arith}
 use lib.ListN.{length, take}
-use Rattle.definitions.specs.Limits.{maxSets, maxUnionRows}
+use Rattle.definitions.specs.Limits.{maxSets}
 use Rattle.cliques.specs.Search.{rowOf}
 use Rattle.cliques.specs.Parts.{Searched}
 use Rattle.cliques.proofs.PartTurns.{part-ready, part-grows, part-searched}
 use borrow.Author.Needs.{needs}
 use Rattle.cliques.proofs.parts.list_part.Statement.{statement}
 use Rattle.cliques.proofs.parts.list_part.Tie as tie
+use Rattle.bitsets.specs.Bits.{wordBits}
 
 common-rows-requires : tie.Need-common-rows-requires
 common-rows-requires c κs = search needs
@@ -63,19 +64,11 @@ returns c =
     let list = f .search .last .1 .1 .1 .1 .1 .0 in (
       f .search .ensures .0,
       c .add-rows .kept .0 ∙ f .search .ensures .1,
-      subst (λ (x : List ℕ). Searched (rowOf (q .args .neighbours .now)) (suc maxSets) maxUnionRows (q .args .part) (take (q .args .count) (q .args .list .now)) (take (f .search .result) x))
+      subst (λ (x : List ℕ). Searched (rowOf (q .args .neighbours .now)) (suc maxSets) wordBits (q .args .part) (take (q .args .count) (q .args .list .now)) (take (f .search .result) x))
           (sym (c .add-rows .ensures))
           (part-searched (suc maxSets) (q .pre .0) (k .common-rows .result) (m .minus .result) (k .common-rows .ensures) (m .minus .ensures) (z .size .result) (z .size .ensures)
           (q .args .list .now) list (q .args .count) (f .search .result) (first f) (room f) (f .search .ensures .2) _ _ refl),
     )
 
 pub list-part-spec : {M : Type 1} → statement M
-list-part-spec =
-    tie.close
-    (tie.spec
-    common-rows-requires
-    minus-requires
-    size-requires
-    search-requires
-    add-rows-requires
-    returns)
+list-part-spec = tie.close (tie.spec common-rows-requires minus-requires size-requires search-requires add-rows-requires returns)

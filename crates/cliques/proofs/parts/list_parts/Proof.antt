@@ -5,8 +5,8 @@ use native.Mathlib.Omega.{arith}
 use lib.ListN.{length, take}
 use lib.Seq.{length-take-le}
 use borrow.Author.Needs.{needs}
-use Rattle.definitions.specs.Limits.{maxSets, maxUnionRows}
-use Rattle.bitsets.specs.Bits.{Sub}
+use Rattle.definitions.specs.Limits.{maxSets}
+use Rattle.bitsets.specs.Bits.{Sub, wordBits}
 use Rattle.cliques.specs.Graph.{adjacent}
 use Rattle.cliques.specs.Search.{rowOf}
 use Rattle.cliques.proofs.PartTurns.{part-rows, Continues, continue-start, continue-full, continue-part, continue-end, part-less, left-sub}
@@ -16,14 +16,14 @@ use Rattle.cliques.proofs.parts.list_parts.Tie as tie
 abbrev Inv-loop : tie.InvT-loop
 Inv-loop neighbours rows list₀ rest₀ count₀ list rest count =
     (length list ≡ length list₀) × (count ≤ suc maxSets) × Sub rest rows
-    × Continues (rowOf neighbours) (suc maxSets) maxUnionRows rows rest (take count list)
+    × Continues (rowOf neighbours) (suc maxSets) wordBits rows rest (take count list)
 
 abbrev μ-loop : tie.MeasureT-loop
 μ-loop neighbours rows list₀ rest₀ count₀ list rest count = rest
 
 loop-holds : tie.Need-loop-holds Inv-loop μ-loop
 loop-holds c =
-    (refl, omega arith, λ k h. h, continue-start (rowOf (c .args .neighbours .now)) (suc maxSets) maxUnionRows (c .args .rows))
+    (refl, omega arith, λ k h. h, continue-start (rowOf (c .args .neighbours .now)) (suc maxSets) wordBits (c .args .rows))
 
 -- where a turn begins, the list holds so many sets
 module _ (b : tie.At-loop Inv-loop μ-loop) where
@@ -36,7 +36,7 @@ returns c =
     let s = b .before .args in (
       b .loop .inv .1,
       b .loop .inv .0,
-      continue-full (rowOf (s .neighbours .now)) (suc maxSets) maxUnionRows (s .rows) (b .loop .rest) (take (b .loop .count) (b .loop .list)) (b .loop .inv .3)
+      continue-full (rowOf (s .neighbours .now)) (suc maxSets) wordBits (s .rows) (b .loop .rest) (take (b .loop .count) (b .loop .list)) (b .loop .inv .3)
           (omega (arith, held b, c .if1 .taken)),
     )
 
@@ -72,7 +72,7 @@ loop-again c =
       l .list-part .ensures .1 ∙ b .loop .inv .0,
       l .list-part .ensures .0,
       λ k h. b .loop .inv .2 k (left-sub (b .loop .rest) (p .part-of .result) (c .minus .result) (c .minus .ensures) k h),
-      continue-part (rowOf (s .neighbours .now)) (suc maxSets) maxUnionRows (s .rows) (b .loop .rest) (take (b .loop .count) (b .loop .list)) (b .loop .inv .3)
+      continue-part (rowOf (s .neighbours .now)) (suc maxSets) wordBits (s .rows) (b .loop .rest) (take (b .loop .count) (b .loop .list)) (b .loop .inv .3)
           (omega (arith, held b, p .before .before .if1 .left)) (p .part-of .result) (c .minus .result) (p .part-of .ensures) (c .minus .ensures) _ (l .list-part .ensures .2),
     )
 
@@ -82,20 +82,8 @@ returns-2 c =
     let s = b .before .args in (
       b .loop .inv .1,
       b .loop .inv .0,
-      continue-end (rowOf (s .neighbours .now)) (suc maxSets) maxUnionRows (s .rows) (b .loop .rest) (take (b .loop .count) (b .loop .list)) (b .loop .inv .3) (omega arith),
+      continue-end (rowOf (s .neighbours .now)) (suc maxSets) wordBits (s .rows) (b .loop .rest) (take (b .loop .count) (b .loop .list)) (b .loop .inv .3) (omega arith),
     )
 
 pub list-parts-spec : {M : Type 1} → statement M
-list-parts-spec =
-    tie.close
-    (tie.spec
-    Inv-loop
-    μ-loop
-    loop-holds
-    returns
-    part-of-requires
-    list-part-requires
-    minus-requires
-    loop-less
-    loop-again
-    returns-2)
+list-parts-spec = tie.close (tie.spec Inv-loop μ-loop loop-holds returns part-of-requires list-part-requires minus-requires loop-less loop-again returns-2)

@@ -1,6 +1,5 @@
 -- `part_of` grows a part until no row is ahead: a law for a turn and for the return (Growing). Fewer rows are left out at each turn.
 use native.Mathlib.Omega.{arith}
-use lib.ListN.{length}
 use borrow.Author.Needs.{needs}
 use Rattle.bitsets.specs.Bits.{butNot}
 use Rattle.bitsets.proofs.Bits.{lowest-inside}
@@ -94,18 +93,5 @@ pub part-of-spec : {M : Type 1} → statement M
 part-of-spec =
     tie.close
     (tie.spec
-    Inv-loop
-    μ-loop
-    lowest-row-requires
-    with-row-requires
-    loop-holds
-    lowest-row-requires-2
-    with-row-requires-2
-    mul-unite
-    shared-slice-read-unite
-    unite-requires
-    meet-requires
-    minus-requires
-    loop-less
-    loop-again
-    returns)
+    Inv-loop μ-loop lowest-row-requires with-row-requires loop-holds lowest-row-requires-2 with-row-requires-2 mul-unite shared-slice-read-unite
+    unite-requires meet-requires minus-requires loop-less loop-again returns)

@@ -1,11 +1,12 @@
 -- `search` makes a run: a law for each return, and for what each call is asked (Turns). The measure is the count of undecided rows.
 use mathlib.Core.Path.{_≡_, refl, sym, _∙_}
-use Prim.Native.Nat.{ℕ, suc, _-_, _<_}
+use mathlib.Core.Bool.{false}
+use Prim.Native.Nat.{ℕ, suc, _<_}
 use native.Mathlib.Omega.{arith}
 use borrow.Author.Needs.{needs}
 use borrow.Fn.Kinds.{In}
 use borrow.Fn.PlainCycle.{Measures, is, falls, and}
-use Rattle.definitions.specs.Limits.{maxSets, maxUnionRows}
+use Rattle.definitions.specs.Limits.{maxSets}
 use Rattle.cliques.specs.Search.{rowOf}
 use Rattle.cliques.proofs.Run.{split-some, split-row}
 use Rattle.cliques.proofs.Turns.{Turn, run-stops, run-lists, row-within, row-bit, asked, ready-joins, ready-leaves, ready-takes, run-joins, run-leaves, run-takes}
@@ -21,6 +22,7 @@ use Rattle.cliques.proofs.search.may_take.Reads as may-take-reads
 use Rattle.cliques.proofs.search.take_row.Reads as take-row-reads
 use Rattle.cliques.proofs.search.+search.{statement}
 use Rattle.cliques.proofs.search.+search.Tie.{close}
+use Rattle.bitsets.specs.Bits.{isSub, wordBits}
 
 abbrev μ-search : Measures 2 search-kinds.ps ℕ
 μ-search κs a = a .1 .1 .1 .0
@@ -60,7 +62,7 @@ module _ (t : ℕ) where
     undecided-left : start .args .undecided ≡ 0 → ⊥
     undecided-left = w .before .before .before .if2 .left
 
-    turn : Turn maxUnionRows (suc maxSets) (start .args .neighbours .now) (start .args .decided) (start .args .rest) (start .args .undecided)
+    turn : Turn wordBits (suc maxSets) (start .args .neighbours .now) (start .args .decided) (start .args .rest) (start .args .undecided)
         (start .args .set) (start .args .list .now) (start .args .count) (w .before .before .lowest-row .result) (w .before .without-lowest .result)
         (w .with-row .result)
     turn = record {
@@ -71,6 +73,14 @@ module _ (t : ℕ) where
       rows-later = w .before .without-lowest .ensures;
       rows-known = w .with-row .ensures;
     }
+
+  -- where it is told whether a row may be taken that does not complement all of the set
+  module _ (m : lts.After-may-take (claims t) (at t) search′.Post) where
+    abbrev row : lts.After-with-row (claims t) (at t) search′.Post
+    row = m .before .before .before .before .before
+
+    not-all : isSub (start row .args .set) (rowOf (start row .args .neighbours .now) (row .before .before .lowest-row .result)) ≡ false
+    not-all = sym (m .before .before .before .is-sub .ensures) ∙ m .before .before .if3 .left
 
   returns : lts.Need-returns (claims t) (at t) search′.Post
   returns c =
@@ -162,13 +172,11 @@ module _ (t : ℕ) where
       let g = c .before in
       let f = g .before .before in
       let m = f .before in
-      let e = m .before .before in
-      let i = e .before in
-      let w = i .before .before in
+      let w = row m in
       let q = start w in (
         omega (arith, q .pre .0, undecided-left w),
         ready-takes (turn w) (g .take-row .result) (q .args .list .now) (q .args .count) refl (q .pre .1 .few)
-            (sym (i .is-sub .ensures) ∙ e .if3 .left) (m .may-take .ensures .yes (f .if4 .taken)) (g .take-row .ensures),
+            (not-all m) (m .may-take .ensures .yes (f .if4 .taken)) (g .take-row .ensures),
       )
 
   sub-search-3 : lts.Need-sub-search-3 (claims t) (at t) search′.Post
@@ -178,13 +186,11 @@ module _ (t : ℕ) where
   search-requires-3 c κs =
       let k = c .before in
       let m = k .before .before .before .before .before in
-      let e = m .before .before in
-      let i = e .before in
-      let w = i .before .before in
+      let w = row m in
       let q = start w in (
         omega (arith, q .pre .0, undecided-left w),
         ready-leaves (turn w) (q .args .set) (k .search2 .last .1 .1 .1 .1 .1 .0) (k .search2 .result)
-            (k .search2 .ensures .1) (k .search2 .ensures .0) (sym (i .is-sub .ensures) ∙ e .if3 .left) refl,
+            (k .search2 .ensures .1) (k .search2 .ensures .0) (not-all m) refl,
       )
 
   returns-4 : lts.Need-returns-4 (claims t) (at t) search′.Post
@@ -193,12 +199,10 @@ module _ (t : ℕ) where
       let g = k .before .before in
       let f = g .before .before in
       let m = f .before in
-      let e = m .before .before in
-      let i = e .before in
-      let w = i .before .before in (
+      let w = row m in (
         c .search3 .ensures .0,
         c .search3 .ensures .1 ∙ k .search2 .ensures .1,
-        run-takes (turn w) _ (sym (i .is-sub .ensures) ∙ e .if3 .left) (m .may-take .ensures .yes (f .if4 .taken))
+        run-takes (turn w) _ (not-all m) (m .may-take .ensures .yes (f .if4 .taken))
             (g .take-row .result) (g .take-row .ensures) _ (k .search2 .ensures .2) (c .search3 .ensures .2),
       )
 
@@ -209,23 +213,19 @@ module _ (t : ℕ) where
   search-requires-4 c κs =
       let f = c .before in
       let m = f .before in
-      let e = m .before .before in
-      let i = e .before in
-      let w = i .before .before in
+      let w = row m in
       let q = start w in (
         omega (arith, q .pre .0, undecided-left w),
         ready-leaves (turn w) (q .args .set) (q .args .list .now) (q .args .count) refl (q .pre .1 .few)
-            (sym (i .is-sub .ensures) ∙ e .if3 .left) refl,
+            (not-all m) refl,
       )
 
   returns-5 : lts.Need-returns-5 (claims t) (at t) search′.Post
   returns-5 c =
       let f = c .before .before in
       let m = f .before in
-      let e = m .before .before in
-      let i = e .before in
-      let w = i .before .before in
-      (c .search4 .ensures .0, c .search4 .ensures .1, run-leaves (turn w) _ (sym (i .is-sub .ensures) ∙ e .if3 .left) (m .may-take .ensures .no (f .if4 .left)) (c .search4 .ensures .2))
+      let w = row m in
+      (c .search4 .ensures .0, c .search4 .ensures .1, run-leaves (turn w) _ (not-all m) (m .may-take .ensures .no (f .if4 .left)) (c .search4 .ensures .2))
 
 pub +search-spec : {M : Type 1} → statement M
 +search-spec = close μ-search λ t. lts.spec (claims t)

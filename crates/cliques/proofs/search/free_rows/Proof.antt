@@ -1,6 +1,5 @@
 -- `free_rows` keeps the rows that complement each row of the set. The invariant: what is free for the rows that are left, of the rows kept, is
 -- what is free for all, of those given.
-use mathlib.Core.Path.{_≡_}
 use Prim.Native.Nat.{ℕ}
 use native.Mathlib.Omega.{arith}
 use lib.ListN.{length}
@@ -8,14 +7,14 @@ use borrow.Author.Needs.{needs}
 use Rattle.bitsets.specs.Bits.{Inside}
 use Rattle.bitsets.proofs.Bits.{lowest-inside, rest-inside, rest-less}
 use Rattle.cliques.specs.Graph.{adjacent}
-use Rattle.cliques.specs.Search.{rowOf, Free}
+use Rattle.cliques.specs.Search.{rowOf, FreeRows}
 use Rattle.cliques.proofs.Taking.{free-none, free-turn}
 use Rattle.cliques.proofs.search.free_rows.Statement.{statement}
 use Rattle.cliques.proofs.search.free_rows.Tie as tie
 
 abbrev Inv-loop : tie.InvT-loop
 Inv-loop neighbours set start rest₀ word₀ rest word =
-    Inside rest (length neighbours) × ((r : ℕ) → Free (adjacent neighbours) rest word r → Free (adjacent neighbours) set start r)
+    Inside rest (length neighbours) × ((r : ℕ) → FreeRows (adjacent neighbours) rest word r → FreeRows (adjacent neighbours) set start r)
 
 abbrev μ-loop : tie.MeasureT-loop
 μ-loop neighbours set start rest₀ word₀ rest word = rest
@@ -69,14 +68,5 @@ pub free-rows-spec : {M : Type 1} → statement M
 free-rows-spec =
     tie.close
     (tie.spec
-    Inv-loop
-    μ-loop
-    loop-holds
-    lowest-row-requires
-    mul-meet
-    shared-slice-read-meet
-    meet-requires
-    without-lowest-requires
-    loop-less
-    loop-again
+    Inv-loop μ-loop loop-holds lowest-row-requires mul-meet shared-slice-read-meet meet-requires without-lowest-requires loop-less loop-again
     returns)

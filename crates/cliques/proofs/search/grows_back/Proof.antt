@@ -4,9 +4,8 @@ use native.Mathlib.Omega.{arith}
 use lib.ListN.{length}
 use borrow.Author.Needs.{needs}
 use borrow.Author.Tests.{not-true, not-false}
-use Rattle.bitsets.specs.Bits.{Inside}
+use Rattle.bitsets.specs.Bits.{Inside, wordBits}
 use Rattle.bitsets.proofs.Bits.{lowest-inside, rest-less, both-less}
-use Rattle.definitions.specs.Limits.{maxUnionRows}
 use Rattle.cliques.specs.Graph.{adjacent}
 use Rattle.cliques.specs.Search.{rowOf}
 use Rattle.cliques.proofs.Taking.{Walk, walk-start, walk-end, walk-met, walk-turn, left}
@@ -14,7 +13,7 @@ use Rattle.cliques.proofs.search.grows_back.Statement.{statement}
 use Rattle.cliques.proofs.search.grows_back.Tie as tie
 
 abbrev Inv-loop : tie.InvT-loop
-Inv-loop neighbours free set rest₀ rest = Inside rest (length neighbours) × Inside rest maxUnionRows × Walk (adjacent neighbours) free set rest
+Inv-loop neighbours free set rest₀ rest = Inside rest (length neighbours) × Inside rest wordBits × Walk (adjacent neighbours) free set rest
 
 abbrev μ-loop : tie.MeasureT-loop
 μ-loop neighbours free set rest₀ rest = rest
@@ -28,7 +27,7 @@ lowest-row-requires c κs = search needs
 has-row-requires : tie.Need-has-row-requires Inv-loop μ-loop
 has-row-requires c κs =
     let b = c .before .before in
-    lowest-inside (b .loop .rest) (c .lowest-row .result) maxUnionRows (omega arith) (c .lowest-row .ensures) (b .loop .inv .1)
+    lowest-inside (b .loop .rest) (c .lowest-row .result) wordBits (omega arith) (c .lowest-row .ensures) (b .loop .inv .1)
 
 returns : tie.Need-returns Inv-loop μ-loop
 returns c =
@@ -89,16 +88,5 @@ pub grows-back-spec : {M : Type 1} → statement M
 grows-back-spec =
     tie.close
     (tie.spec
-    Inv-loop
-    μ-loop
-    loop-holds
-    lowest-row-requires
-    has-row-requires
-    returns
-    without-lowest-requires
-    mul-meet
-    shared-slice-read-meet
-    meet-requires
-    loop-less
-    loop-again
-    returns-2)
+    Inv-loop μ-loop loop-holds lowest-row-requires has-row-requires returns without-lowest-requires mul-meet shared-slice-read-meet meet-requires
+    loop-less loop-again returns-2)

@@ -52,11 +52,4 @@ pub may-take-spec : {M : Type 1} → statement M
 may-take-spec =
     tie.close
     (tie.spec
-    mul-adjacent
-    shared-slice-read-adjacent
-    meet-requires
-    free-rows-requires
-    meet-requires-2
-    returns
-    grows-back-requires
-    returns-2)
+    mul-adjacent shared-slice-read-adjacent meet-requires free-rows-requires meet-requires-2 returns grows-back-requires returns-2)

@@ -41,15 +41,4 @@ returns-2 c = λ e. record {
 }
 
 pub is-graph-spec : {M : Type 1} → statement M
-is-graph-spec =
-    tie.close
-    (tie.spec
-    Inv-loop
-    μ-loop
-    loop-holds
-    is-mirrored-requires
-    add-j
-    loop-less
-    loop-again
-    returns
-    returns-2)
+is-graph-spec = tie.close (tie.spec Inv-loop μ-loop loop-holds is-mirrored-requires add-j loop-less loop-again returns returns-2)

@@ -16,14 +16,14 @@ Inv-loop neighbours n j k₀ k = (k ≤ n) × ((i : ℕ) → i < k → adjacent 
 abbrev μ-loop : tie.MeasureT-loop
 μ-loop neighbours n j k₀ k = n - k
 
-mul-says : tie.Need-mul-says Inv-loop μ-loop
-mul-says c = search needs
+mul-has-row : tie.Need-mul-has-row Inv-loop μ-loop
+mul-has-row c = search needs
 
-shared-slice-read-says : tie.Need-shared-slice-read-says Inv-loop μ-loop
-shared-slice-read-says c = search needs
+shared-slice-read-has-row : tie.Need-shared-slice-read-has-row Inv-loop μ-loop
+shared-slice-read-has-row c = search needs
 
-says-requires : tie.Need-says-requires Inv-loop μ-loop
-says-requires c κs = search needs
+has-row-requires : tie.Need-has-row-requires Inv-loop μ-loop
+has-row-requires c κs = search needs
 
 returns : tie.Need-returns Inv-loop μ-loop
 returns c = λ e. absurd (clash e refl)
@@ -31,23 +31,23 @@ returns c = λ e. absurd (clash e refl)
 loop-holds : tie.Need-loop-holds Inv-loop μ-loop
 loop-holds c = (search needs, below-none _)
 
-mul-says-2 : tie.Need-mul-says-2 Inv-loop μ-loop
-mul-says-2 c = search needs
+mul-has-row-2 : tie.Need-mul-has-row-2 Inv-loop μ-loop
+mul-has-row-2 c = search needs
 
-shared-slice-read-says-2 : tie.Need-shared-slice-read-says-2 Inv-loop μ-loop
-shared-slice-read-says-2 c = search needs
+shared-slice-read-has-row-2 : tie.Need-shared-slice-read-has-row-2 Inv-loop μ-loop
+shared-slice-read-has-row-2 c = search needs
 
-says-requires-2 : tie.Need-says-requires-2 Inv-loop μ-loop
-says-requires-2 c κs = search needs
+has-row-requires-2 : tie.Need-has-row-requires-2 Inv-loop μ-loop
+has-row-requires-2 c κs = search needs
 
-mul-says-3 : tie.Need-mul-says-3 Inv-loop μ-loop
-mul-says-3 c = search needs
+mul-has-row-3 : tie.Need-mul-has-row-3 Inv-loop μ-loop
+mul-has-row-3 c = search needs
 
-shared-slice-read-says-3 : tie.Need-shared-slice-read-says-3 Inv-loop μ-loop
-shared-slice-read-says-3 c = search needs
+shared-slice-read-has-row-3 : tie.Need-shared-slice-read-has-row-3 Inv-loop μ-loop
+shared-slice-read-has-row-3 c = search needs
 
-says-requires-3 : tie.Need-says-requires-3 Inv-loop μ-loop
-says-requires-3 c κs = search needs
+has-row-requires-3 : tie.Need-has-row-requires-3 Inv-loop μ-loop
+has-row-requires-3 c κs = search needs
 
 returns-2 : tie.Need-returns-2 Inv-loop μ-loop
 returns-2 c = λ e. absurd (clash e refl)
@@ -64,34 +64,18 @@ loop-again c =
     let s = t .before .before in (
       search needs,
       below-more _ _ (s .before .before .before .loop .inv .1)
-          (sym (s .says2 .ensures) ∙ beq-same (s .says2 .result) (t .says3 .result) (c .if2 .left) ∙ t .says3 .ensures),
+          (sym (s .has-row2 .ensures) ∙ beq-same (s .has-row2 .result) (t .has-row3 .result) (c .if2 .left) ∙ t .has-row3 .ensures),
     )
 
 returns-3 : tie.Need-returns-3 Inv-loop μ-loop
 returns-3 c = λ e. record {
   symmetric = λ k h. c .before .loop .inv .1 k (omega arith);
-  apart = sym (c .before .before .before .says .ensures) ∙ c .before .before .if1 .left;
+  apart = sym (c .before .before .before .has-row .ensures) ∙ c .before .before .if1 .left;
 }
 
 pub is-mirrored-spec : {M : Type 1} → statement M
 is-mirrored-spec =
     tie.close
     (tie.spec
-    Inv-loop
-    μ-loop
-    mul-says
-    shared-slice-read-says
-    says-requires
-    returns
-    loop-holds
-    mul-says-2
-    shared-slice-read-says-2
-    says-requires-2
-    mul-says-3
-    shared-slice-read-says-3
-    says-requires-3
-    returns-2
-    add-k
-    loop-less
-    loop-again
-    returns-3)
+    Inv-loop μ-loop mul-has-row shared-slice-read-has-row has-row-requires returns loop-holds mul-has-row-2 shared-slice-read-has-row-2
+    has-row-requires-2 mul-has-row-3 shared-slice-read-has-row-3 has-row-requires-3 returns-2 add-k loop-less loop-again returns-3)

@@ -43,14 +43,4 @@ pub build-spec : {M : Type 1} → statement M
 build-spec =
     tie.close
     (tie.spec
-    Inv-loop
-    μ-loop
-    loop-holds
-    word-requires
-    mul-neighbours
-    slice-write-neighbours
-    add-j
-    loop-less
-    loop-again
-    same-length
-    returns)
+    Inv-loop μ-loop loop-holds word-requires mul-neighbours slice-write-neighbours add-j loop-less loop-again same-length returns)

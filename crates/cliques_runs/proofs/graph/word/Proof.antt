@@ -1,4 +1,4 @@
--- `word` ends, and shifts within a word: its rows are below 64.
+-- `word` ends, and its rows are positions of a word.
 use Prim.Native.Nat.{_≤_, _-_}
 use borrow.Author.Needs.{needs}
 use Rattle.cliques_runs.proofs.graph.word.Statement.{statement}
@@ -16,8 +16,8 @@ loop-holds c = search needs
 beside-requires : tie.Need-beside-requires Inv-loop μ-loop
 beside-requires c κs = search needs
 
-shl-w : tie.Need-shl-w Inv-loop μ-loop
-shl-w c = search needs
+with-row-requires : tie.Need-with-row-requires Inv-loop μ-loop
+with-row-requires c κs = search needs
 
 add-k : tie.Need-add-k Inv-loop μ-loop
 add-k c = search needs
@@ -34,4 +34,4 @@ returns c = search needs
 pub word-spec : {M : Type 1} → statement M
 word-spec =
     tie.close
-    (tie.spec Inv-loop μ-loop loop-holds beside-requires shl-w add-k loop-less loop-again returns)
+    (tie.spec Inv-loop μ-loop loop-holds beside-requires with-row-requires add-k loop-less loop-again returns)

@@ -35,16 +35,4 @@ returns : tie.Need-returns Inv-loop μ-loop
 returns c = search needs
 
 pub sets-spec : {M : Type 1} → statement M
-sets-spec =
-    tie.close
-    (tie.spec
-    Inv-loop
-    μ-loop
-    loop-holds
-    mul-set
-    shared-slice-read-set
-    set-requires
-    add-k
-    loop-less
-    loop-again
-    returns)
+sets-spec = tie.close (tie.spec Inv-loop μ-loop loop-holds mul-set shared-slice-read-set set-requires add-k loop-less loop-again returns)

@@ -35,10 +35,10 @@ module _ (c : tie.In-loop Inv-loop μ-loop) where
   below : (k : ℕ) → has (getD (start .args .columns .now) (turn .loop .c) 0) k ≡ true → k < start .args .n
   below k h =
       let s = start .args in
-      let marks = start .pre .0 .filled .marks (turn .loop .c) (c .loop-test .taken) in
+      let word = start .pre .0 .filled .words (turn .loop .c) (c .loop-test .taken) in
       omega (
         arith,
-        filled-within (rowsIn (s .width) (s .n) (s .cells .now)) (turn .loop .c) k (ap (λ (x : ℕ). has x k) (sym marks) ∙ h),
+        filled-within (rowsIn (s .width) (s .n) (s .cells .now)) (turn .loop .c) k (ap (λ (x : ℕ). has x k) (sym word) ∙ h),
         rows-length (s .width) (s .n) (s .cells .now),
       )
 

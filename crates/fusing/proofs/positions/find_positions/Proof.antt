@@ -9,7 +9,7 @@ use lib.ListN.{length, take}
 use Rattle.definitions.specs.Image.{rowsIn}
 use Rattle.lists.proofs.Flat.{row-fits}
 use Rattle.lists.proofs.Pastes.{Pasted, paste-none}
-use Rattle.rows.specs.Numbers.{rowsAt}
+use Rattle.rows.specs.Indices.{rowsAt}
 use Rattle.fusing.specs.Positions.{positionsIn}
 use Rattle.fusing.proofs.RowPositions.{position-listed, position-member, positions-turn, positions-stay, positions-end}
 use Rattle.fusing.proofs.positions.find_positions.Statement.{statement}
@@ -71,20 +71,20 @@ slice-read-if1 c = position-within (c .before)
 cast-if1 : tie.Need-cast-if1 Inv-loop μ-loop
 cast-if1 c = omega (arith, c .slice-known3 .given (c .before .before .loop .k))
 
-mul-place-of : tie.Need-mul-place-of Inv-loop μ-loop
-mul-place-of c = let w = row-within (c .before .before) in search needs
+mul-position-of : tie.Need-mul-position-of Inv-loop μ-loop
+mul-position-of c = let w = row-within (c .before .before) in search needs
 
-sub-place-of : tie.Need-sub-place-of Inv-loop μ-loop
-sub-place-of c = search needs
+sub-position-of : tie.Need-sub-position-of Inv-loop μ-loop
+sub-position-of c = search needs
 
-part-place-of-start : tie.Need-part-place-of-start Inv-loop μ-loop
-part-place-of-start c = search needs
+part-position-of-start : tie.Need-part-position-of-start Inv-loop μ-loop
+part-position-of-start c = search needs
 
-part-place-of-end : tie.Need-part-place-of-end Inv-loop μ-loop
-part-place-of-end c = let w = row-within (c .before .before) in search needs
+part-position-of-end : tie.Need-part-position-of-end Inv-loop μ-loop
+part-position-of-end c = let w = row-within (c .before .before) in search needs
 
-place-of-requires : tie.Need-place-of-requires Inv-loop μ-loop
-place-of-requires c κs =
+position-of-requires : tie.Need-position-of-requires Inv-loop μ-loop
+position-of-requires c κs =
     let i = c .before .before .before in
     let l = turn i .loop in
     let q = start i in
@@ -96,7 +96,7 @@ place-of-requires c κs =
     )
 
 cast-positions : tie.Need-cast-positions Inv-loop μ-loop
-cast-positions c = omega (arith, c .place-of .ensures .1, start (c .before .before .before .before) .pre .0 .few)
+cast-positions c = omega (arith, c .position-of .ensures .1, start (c .before .before .before .before) .pre .0 .few)
 
 mul-positions : tie.Need-mul-positions Inv-loop μ-loop
 mul-positions c = let w = position-within (c .before .before .before .before) in search needs
@@ -119,7 +119,7 @@ loop-again c =
       search needs,
       next-at i,
       positions-turn (s .width) (s .count) (s .cells .now) (take (s .m) (s .order .now)) (q .pre .0 .fits) (q .pre .0 .ordered) (l .k) (l .at) (search needs) (l .inv .1)
-          _ (l .positions) (c .place-of .result) (omega (arith, own i .fill-own .ensures .size, q .pre .1)) (c .place-of .ensures .0) (l .inv .2),
+          _ (l .positions) (c .position-of .result) (omega (arith, own i .fill-own .ensures .size, q .pre .1)) (c .position-of .ensures .0) (l .inv .2),
     )
 
 add-k-2 : tie.Need-add-k-2 Inv-loop μ-loop
@@ -157,6 +157,6 @@ returns c =
 pub find-positions-spec : {M : Type 1} → statement M
 find-positions-spec =
     tie.close
-    (tie.spec Inv-loop μ-loop fill-own-requires loop-holds add-next mul-if1 slice-read-if1 cast-if1 mul-place-of sub-place-of
-    part-place-of-start part-place-of-end place-of-requires cast-positions mul-positions slice-write-positions add-k loop-less
+    (tie.spec Inv-loop μ-loop fill-own-requires loop-holds add-next mul-if1 slice-read-if1 cast-if1 mul-position-of sub-position-of
+    part-position-of-start part-position-of-end position-of-requires cast-positions mul-positions slice-write-positions add-k loop-less
     loop-again add-k-2 loop-less-2 loop-again-2 same-length returns)

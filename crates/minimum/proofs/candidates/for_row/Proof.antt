@@ -55,15 +55,4 @@ pub for-row-spec : {M : Type 1} → statement M
 for-row-spec =
     tie.close
     (tie.spec
-    Inv-loop
-    μ-loop
-    loop-holds
-    mul-set
-    shared-slice-read-set
-    mul-blank
-    shared-slice-read-blank
-    blank-requires
-    add-c
-    loop-less
-    loop-again
-    returns)
+    Inv-loop μ-loop loop-holds mul-set shared-slice-read-set mul-blank shared-slice-read-blank blank-requires add-c loop-less loop-again returns)

@@ -93,19 +93,5 @@ pub fill-counts-spec : {M : Type 1} → statement M
 fill-counts-spec =
     tie.close
     (tie.spec
-    Inv-loop
-    μ-loop
-    loop-holds
-    add-next
-    mul-count-filled
-    sub-count-filled
-    part-count-filled-start
-    part-count-filled-end
-    count-filled-requires
-    mul-counts
-    slice-write-counts
-    add-i
-    loop-less
-    loop-again
-    same-length
-    returns)
+    Inv-loop μ-loop loop-holds add-next mul-count-filled sub-count-filled part-count-filled-start part-count-filled-end count-filled-requires
+    mul-counts slice-write-counts add-i loop-less loop-again same-length returns)

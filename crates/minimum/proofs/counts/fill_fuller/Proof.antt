@@ -1,4 +1,4 @@
--- `fill_fuller` meets its contract. The loop's invariant: the words from number k on hold the rows with a larger count. Assumes nothing.
+-- `fill_fuller` meets its contract. The loop's invariant: the words from k on hold the rows with a larger count. Assumes nothing.
 use borrow.Author.Needs.{needs}
 use Prim.Native.Nat.{ℕ, _≤_, _<_}
 use mathlib.Core.Path.{_∙_}
@@ -16,27 +16,27 @@ Inv-loop counts words₀ fuller₀ k₀ words fuller k = (k ≤ length words₀)
 abbrev μ-loop : tie.MeasureT-loop
 μ-loop counts words₀ fuller₀ k₀ words fuller k = k
 
--- where the rows with each count are marked
+-- where each row is in the word of its count
 module _ (c : tie.After-slice-known2 Inv-loop μ-loop) where
   abbrev start : tie.Start Inv-loop μ-loop
   start = c .before .before .before .before .before .before
 
-  abbrev marked : List ℕ
-  marked = c .before .before .mark-counts .last .1 .0
+  abbrev by-count : List ℕ
+  by-count = c .before .before .rows-by-count .last .1 .0
 
-  equal : EqualTo (start .args .counts .now) (length (start .args .counts .now)) marked
-  equal = c .before .before .mark-counts .ensures
+  equal : EqualTo (start .args .counts .now) (length (start .args .counts .now)) by-count
+  equal = c .before .before .rows-by-count .ensures
 
-  small : (j : ℕ) → getD (start .args .counts .now) j 0 < length marked
-  small j = omega (arith, start .pre .0 .1 j, c .before .before .mark-counts .kept .1 .0)
+  small : (j : ℕ) → getD (start .args .counts .now) j 0 < length by-count
+  small j = omega (arith, start .pre .0 .1 j, c .before .before .rows-by-count .kept .1 .0)
 
-mark-counts-requires : tie.Need-mark-counts-requires Inv-loop μ-loop
-mark-counts-requires c κs = c .before .before .before .pre
+rows-by-count-requires : tie.Need-rows-by-count-requires Inv-loop μ-loop
+rows-by-count-requires c κs = c .before .before .before .pre
 
 loop-holds : tie.Need-loop-holds Inv-loop μ-loop
 loop-holds c =
     let a = c .before .before .before .before .before .before .args in
-    (search needs, fuller-none (a .counts .now) (marked c) (small c) (equal c))
+    (search needs, fuller-none (a .counts .now) (by-count c) (small c) (equal c))
 
 sub-k : tie.Need-sub-k Inv-loop μ-loop
 sub-k c = search needs
@@ -61,33 +61,22 @@ loop-again c =
     let l = c .before .before in
     let a = l .before .before .before .before .before .before .before .args in (
       search needs,
-      fuller-turn (a .counts .now) (marked (l .before)) (small (l .before)) (equal (l .before)) (l .loop .k) (l .loop .fuller) (l .loop .words) (search needs) (search needs)
+      fuller-turn (a .counts .now) (by-count (l .before)) (small (l .before)) (equal (l .before)) (l .loop .k) (l .loop .fuller) (l .loop .words) (search needs) (search needs)
           (l .loop .inv .1),
     )
 
 same-length : tie.Need-same-length Inv-loop μ-loop
-same-length c = c .before .loop .inv .1 .size ∙ c .before .before .before .before .mark-counts .kept .1 .0
+same-length c = c .before .loop .inv .1 .size ∙ c .before .before .before .before .rows-by-count .kept .1 .0
 
 returns : tie.Need-returns Inv-loop μ-loop
 returns c =
     let l = c .before in
     let a = l .before .before .before .before .before .before .before .args in
-    fuller-end (a .counts .now) (marked (l .before)) (small (l .before)) (equal (l .before)) (l .loop .k) (l .loop .fuller) (l .loop .words) (search needs) (l .loop .inv .1)
+    fuller-end (a .counts .now) (by-count (l .before)) (small (l .before)) (equal (l .before)) (l .loop .k) (l .loop .fuller) (l .loop .words) (search needs) (l .loop .inv .1)
 
 pub fill-fuller-spec : {M : Type 1} → statement M
 fill-fuller-spec =
     tie.close
     (tie.spec
-    Inv-loop
-    μ-loop
-    mark-counts-requires
-    loop-holds
-    sub-k
-    mul-equal
-    slice-read-equal
-    mul-words
-    slice-write-words
-    loop-less
-    loop-again
-    same-length
+    Inv-loop μ-loop rows-by-count-requires loop-holds sub-k mul-equal slice-read-equal mul-words slice-write-words loop-less loop-again same-length
     returns)

@@ -11,34 +11,32 @@ use lib.Bits.{and-le-r}
 use lib.Count.{trailingZeros, trailing-le}
 use lib.ListN.{length, getD}
 use Rattle.bitsets.proofs.Bits.{Lowest, trailing-lowest}
-use Rattle.minimum.proofs.Trying.{CoveredTo, Left, count-there, row-end, own-short, column-covered, column-differs, columns-covered}
+use Rattle.minimum.proofs.Trying.{CoveredTo, Remaining, row-end, own-short, column-covered, column-differs, columns-covered}
 use Rattle.minimum.proofs.Trying.{left-all, next-within, left-next, tried-none, tried-found}
 use Rattle.minimum.proofs.trial.try_row.Statement.{statement}
 use Rattle.minimum.proofs.trial.try_row.Tie as tie
+use Rattle.bitsets.specs.Bits.{wordBits}
 
 abbrev Inv-loop : tie.InvT-loop
-Inv-loop cells counts fuller columns n width k own own-end count rest subsumed₀ looked₀ j at c₀ subsumed looked c =
-    (c ≤ width) × CoveredTo width n cells k j c × (subsumed ≡ false) × (looked ≡ n)
+Inv-loop cells counts fuller columns width k own own-end count rest subsumed₀ looked₀ j at c₀ subsumed looked c =
+    (c ≤ width) × CoveredTo width (length counts) cells k j c × (subsumed ≡ false) × (looked ≡ length counts)
 
 abbrev μ-loop : tie.MeasureT-loop
-μ-loop cells counts fuller columns n width k own own-end count rest subsumed₀ looked₀ j at c₀ subsumed looked c = width - c
+μ-loop cells counts fuller columns width k own own-end count rest subsumed₀ looked₀ j at c₀ subsumed looked c = width - c
 
 abbrev Inv-rows : tie.InvT-rows
-Inv-rows cells counts fuller columns n width k own own-end count rest₀ subsumed₀ looked₀ rest subsumed looked =
-    (rest < 2 ^ 64) × (subsumed ≡ false) × (looked ≡ n) × Left width n cells k rest
+Inv-rows cells counts fuller columns width k own own-end count rest₀ subsumed₀ looked₀ rest subsumed looked =
+    (rest < 2 ^ wordBits) × (subsumed ≡ false) × (looked ≡ length counts) × Remaining width (length counts) cells k rest
 
 abbrev μ-rows : tie.MeasureT-rows
-μ-rows cells counts fuller columns n width k own own-end count rest₀ subsumed₀ looked₀ rest subsumed looked = rest
+μ-rows cells counts fuller columns width k own own-end count rest₀ subsumed₀ looked₀ rest subsumed looked = rest
 
--- at the start: row k has a count, the count its word, and each row is within the cells
+-- at the start: the count of row k has its word, and each row is within the cells
 module _ (q : tie.Start Inv-loop μ-loop Inv-rows μ-rows) where
-  counted : q .args .k < length (q .args .counts .now)
-  counted = count-there (q .pre .0) (q .pre .1)
-
   word-there : getD (q .args .counts .now) (q .args .k) 0 < length (q .args .fuller .now)
   word-there = q .pre .1 .room (q .args .k)
 
-  row-there : (j : ℕ) → j < q .args .n → j * q .args .width + q .args .width ≤ length (q .args .cells .now)
+  row-there : (j : ℕ) → j < length (q .args .counts .now) → j * q .args .width + q .args .width ≤ length (q .args .cells .now)
   row-there = row-end (q .pre .0) (q .pre .1)
 
   own-there : q .args .k * q .args .width + q .args .width ≤ length (q .args .cells .now)
@@ -53,16 +51,16 @@ module _ (x : tie.In-rows Inv-loop μ-loop Inv-rows μ-rows) where
   start = turn .before .before .before .before .before .before .before .before .before
 
   abbrev next : ℕ
-  next = trailingZeros 64 (turn .rows .rest)
+  next = trailingZeros wordBits (turn .rows .rest)
 
   lowest-of : Lowest (turn .rows .rest) next
-  lowest-of = trailing-lowest 64 (turn .rows .rest) (x .rows-test .taken) (turn .rows .inv .0)
+  lowest-of = trailing-lowest wordBits (turn .rows .rest) (x .rows-test .taken) (turn .rows .inv .0)
 
-  adjacent : next < start .args .n
-  adjacent = next-within (start .pre .0) (start .pre .1) (turn .rows .inv .3) lowest-of
+  in-range : next < length (start .args .counts .now)
+  in-range = next-within (start .pre .0) (start .pre .1) (turn .rows .inv .3) lowest-of
 
   other-there : next * start .args .width + start .args .width ≤ length (start .args .cells .now)
-  other-there = row-there start next adjacent
+  other-there = row-there start next in-range
 
 mul-own : tie.Need-mul-own Inv-loop μ-loop Inv-rows μ-rows
 mul-own c = let e = own-there (c .before .before .before .before) in search needs
@@ -71,10 +69,10 @@ add-own-end : tie.Need-add-own-end Inv-loop μ-loop Inv-rows μ-rows
 add-own-end c = let e = own-there (c .before .before .before .before) in search needs
 
 mul-count : tie.Need-mul-count Inv-loop μ-loop Inv-rows μ-rows
-mul-count c = let e = counted (c .before .before .before .before) in search needs
+mul-count c = let e = c .before .before .before .before .pre .0 in search needs
 
 shared-slice-read-count : tie.Need-shared-slice-read-count Inv-loop μ-loop Inv-rows μ-rows
-shared-slice-read-count c = counted (c .before .before .before .before .before)
+shared-slice-read-count c = c .before .before .before .before .before .pre .0
 
 cast-count : tie.Need-cast-count Inv-loop μ-loop Inv-rows μ-rows
 cast-count c = omega (arith, c .shared-slice-known5 .given (c .before .before .before .before .before .args .k))
@@ -112,7 +110,7 @@ rows-holds c =
     )
 
 cast-j : tie.Need-cast-j Inv-loop μ-loop Inv-rows μ-rows
-cast-j c = omega (arith, trailing-le 64 (turn c .rows .rest))
+cast-j c = omega (arith, trailing-le wordBits (turn c .rows .rest))
 
 mul-at : tie.Need-mul-at Inv-loop μ-loop Inv-rows μ-rows
 mul-at c = let e = other-there c in search needs
@@ -121,7 +119,7 @@ loop-holds : tie.Need-loop-holds Inv-loop μ-loop Inv-rows μ-rows
 loop-holds c = (search needs, refl, turn c .rows .inv .1, turn c .rows .inv .2)
 
 add-looked : tie.Need-add-looked Inv-loop μ-loop Inv-rows μ-rows
-add-looked c = let e = adjacent (c .before .before) in search needs
+add-looked c = let e = in-range (c .before .before) in search needs
 
 add-covered : tie.Need-add-covered Inv-loop μ-loop Inv-rows μ-rows
 add-covered c = let e = other-there (c .before .before) in search needs
@@ -156,7 +154,7 @@ loop-again c =
     let x = l .before in
     let q = start x in (
       search needs,
-      column-covered (q .pre .0) (q .pre .1) (next x) (l .loop .c) (adjacent x) (search needs) (l .loop .inv .1) (c .before .covered .ensures)
+      column-covered (q .pre .0) (q .pre .1) (next x) (l .loop .c) (in-range x) (search needs) (l .loop .inv .1) (c .before .covered .ensures)
           (not-false _ (c .if2 .left)),
       l .loop .inv .2,
       l .loop .inv .3,
@@ -177,7 +175,7 @@ rows-again c =
     let q = start x in
     let r = turn x .rows in
     let d =
-    column-differs (q .pre .0) (q .pre .1) (next x) (l .loop .c) (adjacent x) (search needs) (l .loop .inv .1) (c .before .covered .ensures)
+    column-differs (q .pre .0) (q .pre .1) (next x) (l .loop .c) (in-range x) (search needs) (l .loop .inv .1) (c .before .covered .ensures)
     (not-true _ (c .if2 .taken)) in (
       omega (arith, and-le-r (r .rest) (r .rest - 1), r .inv .0),
       l .loop .inv .2,
@@ -192,51 +190,19 @@ returns : tie.Need-returns Inv-loop μ-loop Inv-rows μ-rows
 returns c =
     let l = c .before .before .rows in
     let q = c .before .before .before .before .before .before .before .before .before .before .before in
-    let j = trailingZeros 64 (l .rest) in
+    let j = trailingZeros wordBits (l .rest) in
     ⊎-elim
     (λ w. tried-none (q .pre .0) (q .pre .1) (l .inv .3) (c .others .ensures) (w .0 .left) (w .1 ∙ l .inv .1) (w .2 ∙ l .inv .2))
     (λ w.
     let d = columns-covered (q .pre .0) (q .pre .1) j (w .1 .c) (omega (arith, w .2 .taken)) (w .1 .inv .1) in
-    tried-found (q .pre .0) (q .pre .1) (l .inv .3) (c .others .ensures) j (trailing-lowest 64 (l .rest) (w .0 .taken) (l .inv .0)) d (w .3) (w .4))
+    tried-found (q .pre .0) (q .pre .1) (l .inv .3) (c .others .ensures) j (trailing-lowest wordBits (l .rest) (w .0 .taken) (l .inv .0)) d (w .3) (w .4))
     (c .before .rows-test .came)
 
 pub try-row-spec : {M : Type 1} → statement M
 try-row-spec =
     tie.close
     (tie.spec
-    Inv-loop
-    μ-loop
-    Inv-rows
-    μ-rows
-    mul-own
-    add-own-end
-    mul-count
-    shared-slice-read-count
-    cast-count
-    mul-for-row
-    sub-for-row
-    part-for-row-start
-    part-for-row-end
-    mul-for-row-2
-    shared-slice-read-for-row
-    for-row-requires
-    rows-holds
-    cast-j
-    mul-at
-    loop-holds
-    add-looked
-    add-covered
-    mul-covered
-    shared-slice-read-covered
-    add-covered-2
-    mul-covered-2
-    shared-slice-read-covered-2
-    covered-requires
-    add-c
-    loop-less
-    loop-again
-    sub-rest
-    rows-less
-    rows-again
-    others-requires
-    returns)
+    Inv-loop μ-loop Inv-rows μ-rows mul-own add-own-end mul-count shared-slice-read-count cast-count mul-for-row sub-for-row part-for-row-start
+    part-for-row-end mul-for-row-2 shared-slice-read-for-row for-row-requires rows-holds cast-j mul-at loop-holds add-looked add-covered mul-covered
+    shared-slice-read-covered add-covered-2 mul-covered-2 shared-slice-read-covered-2 covered-requires add-c loop-less loop-again sub-rest rows-less
+    rows-again others-requires returns)

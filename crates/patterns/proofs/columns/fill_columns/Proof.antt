@@ -42,20 +42,20 @@ loop-holds c = let s = c .before .before in (search needs, sym (zero-mul (s .arg
 add-next : tie.Need-add-next Inv-loop μ-loop
 add-next c = let w = row-within c in search needs
 
-mul-mark-columns : tie.Need-mul-mark-columns Inv-loop μ-loop
-mul-mark-columns c = let w = row-within c in search needs
+mul-add-row : tie.Need-mul-add-row Inv-loop μ-loop
+mul-add-row c = let w = row-within c in search needs
 
-sub-mark-columns : tie.Need-sub-mark-columns Inv-loop μ-loop
-sub-mark-columns c = search needs
+sub-add-row : tie.Need-sub-add-row Inv-loop μ-loop
+sub-add-row c = search needs
 
-part-mark-columns-start : tie.Need-part-mark-columns-start Inv-loop μ-loop
-part-mark-columns-start c = search needs
+part-add-row-start : tie.Need-part-add-row-start Inv-loop μ-loop
+part-add-row-start c = search needs
 
-part-mark-columns-end : tie.Need-part-mark-columns-end Inv-loop μ-loop
-part-mark-columns-end c = let w = row-within c in search needs
+part-add-row-end : tie.Need-part-add-row-end Inv-loop μ-loop
+part-add-row-end c = let w = row-within c in search needs
 
-mark-columns-requires : tie.Need-mark-columns-requires Inv-loop μ-loop
-mark-columns-requires c κs =
+add-row-requires : tie.Need-add-row-requires Inv-loop μ-loop
+add-row-requires c κs =
     let i = c .before .before in
     let l = turn i .loop in
     let q = start i in
@@ -72,7 +72,7 @@ loop-less c = search needs
 
 loop-again : tie.Need-loop-again Inv-loop μ-loop
 loop-again c =
-    let f = c .before .before .mark-columns in
+    let f = c .before .before .add-row in
     let i = c .before .before .before .before .before in
     let l = turn i .loop in
     let q = start i in
@@ -97,17 +97,5 @@ pub fill-columns-spec : {M : Type 1} → statement M
 fill-columns-spec =
     tie.close
     (tie.spec
-    Inv-loop
-    μ-loop
-    loop-holds
-    add-next
-    mul-mark-columns
-    sub-mark-columns
-    part-mark-columns-start
-    part-mark-columns-end
-    mark-columns-requires
-    add-j
-    loop-less
-    loop-again
-    same-length
-    returns)
+    Inv-loop μ-loop loop-holds add-next mul-add-row sub-add-row part-add-row-start part-add-row-end add-row-requires add-j loop-less loop-again
+    same-length returns)

@@ -11,6 +11,7 @@ use lib.Dec.{eqb}
 use lib.Count.{ones, onesIn, ones-le}
 use borrow.Author.Needs.{needs}
 use borrow.Author.Tests.{eqb-true}
+use Rattle.patterns.specs.Pattern.{patternBits}
 use Rattle.patterns.proofs.Table.{at}
 use Rattle.patterns.proofs.Bytes.{ones-bytes, byte-small}
 use Rattle.patterns.proofs.ones.count_ones.Statement.{statement}
@@ -42,7 +43,7 @@ unfolding table right ones onesIn
 entry k h = record { is = eqb-true (getD table k 0) (ones k) (at right table refl k h); small = ones-le 8 k h }
 
 -- the four entries that are read
-entries : (p : ℕ) → p < 2 ^ 32 → Entry (bitAnd p 255) × Entry (bitAnd (p / 2 ^ 8) 255) × Entry (bitAnd (p / 2 ^ 16) 255) × Entry (p / 2 ^ 24)
+entries : (p : ℕ) → p < 2 ^ patternBits → Entry (bitAnd p 255) × Entry (bitAnd (p / 2 ^ 8) 255) × Entry (bitAnd (p / 2 ^ 16) 255) × Entry (p / 2 ^ 24)
 entries p h = (
   entry (bitAnd p 255) (byte-small p),
   entry (bitAnd (p / 2 ^ 8) 255) (byte-small (p / 2 ^ 8)),
@@ -110,19 +111,5 @@ pub count-ones-spec : {M : Type 1} → statement M
 count-ones-spec =
     tie.close
     (tie.spec
-    cast-low
-    array-read-low
-    cast-second
-    array-read-second
-    cast-third
-    array-read-third
-    cast-high
-    array-read-high
-    cast-result
-    cast-result-2
-    add-result
-    cast-result-3
-    add-result-2
-    cast-result-4
-    add-result-3
-    returns)
+    cast-low array-read-low cast-second array-read-second cast-third array-read-third cast-high array-read-high cast-result cast-result-2 add-result
+    cast-result-3 add-result-2 cast-result-4 add-result-3 returns)

@@ -3,8 +3,8 @@ use Prim.Native.Nat.{_+_, _-_, _/_}
 use native.Mathlib.Omega.{arith}
 use lib.ListN.{length}
 use borrow.Author.Needs.{needs}
-use Rattle.rows.proofs.Numbers.{fit-named}
-use Rattle.rows.proofs.Places.{Sought, search-all, search-over, search-before, search-after, search-same}
+use Rattle.rows.proofs.Indices.{fit-named}
+use Rattle.rows.proofs.Positions.{Sought, search-all, search-over, search-before, search-after, search-same}
 use Rattle.rows.proofs.search.find_row.Statement.{statement}
 use Rattle.rows.proofs.search.find_row.Tie as tie
 
@@ -99,21 +99,5 @@ pub find-row-spec : {M : Type 1} → statement M
 find-row-spec =
     tie.close
     (tie.spec
-    Inv-loop
-    μ-loop
-    loop-holds
-    sub-mid
-    add-mid
-    mul-compare-with
-    shared-slice-read-compare-with
-    compare-with-requires
-    enum-told
-    loop-less
-    loop-again
-    enum-told-2
-    returns
-    enum-told-3
-    add-lo
-    loop-less-2
-    loop-again-2
-    returns-2)
+    Inv-loop μ-loop loop-holds sub-mid add-mid mul-compare-with shared-slice-read-compare-with compare-with-requires enum-told loop-less loop-again
+    enum-told-2 returns enum-told-3 add-lo loop-less-2 loop-again-2 returns-2)

@@ -8,13 +8,13 @@ use lib.ListN.{length, take, length-take, length-drop}
 use borrow.Author.Needs.{needs}
 use Rattle.lists.proofs.Pastes.{Pasted, paste-none, paste-all}
 use Rattle.lists.proofs.Flat.{row-fits}
-use Rattle.rows.specs.Numbers.{rowsAt}
-use Rattle.rows.proofs.Numbers.{fit-named}
+use Rattle.rows.specs.Indices.{rowsAt}
+use Rattle.rows.proofs.Indices.{fit-named}
 use Rattle.rows.proofs.Writing.{rows-turn}
 use Rattle.rows.proofs.write.write_rows.Statement.{statement}
 use Rattle.rows.proofs.write.write_rows.Tie as tie
 
--- the words of the rows at the first m numbers
+-- the words of the rows at the first m indices
 abbrev words : ℕ → List ℕ → ℕ → List ℕ → List ℕ
 words width cells m order = flatten (rowsAt width cells (take m order))
 
@@ -40,7 +40,7 @@ shared-slice-read-wide c = search needs
 wide-requires : tie.Need-wide-requires Inv-loop μ-loop
 wide-requires c κs = search needs
 
--- where the row's number is known
+-- where the row's index is known
 module _ (c : tie.After-wide Inv-loop μ-loop) where
   abbrev turn : tie.At-loop Inv-loop μ-loop
   turn = c .before .before .before
@@ -48,7 +48,7 @@ module _ (c : tie.After-wide Inv-loop μ-loop) where
   abbrev start : tie.Start Inv-loop μ-loop
   start = turn .before .before .before .before
 
-  -- the row that the number names is within the cells
+  -- the row that the index names is within the cells
   row-in : c .wide .result * start .args .width + start .args .width ≤ length (start .args .cells .now)
   row-in =
       let s = start .args in
@@ -119,22 +119,5 @@ pub write-rows-spec : {M : Type 1} → statement M
 write-rows-spec =
     tie.close
     (tie.spec
-    Inv-loop
-    μ-loop
-    loop-holds
-    mul-wide
-    shared-slice-read-wide
-    wide-requires
-    mul-from
-    add-end
-    mul-write-words
-    sub-write-words
-    part-write-words-start
-    part-write-words-end
-    write-words-requires
-    add-to
-    add-k
-    loop-less
-    loop-again
-    same-length
-    returns)
+    Inv-loop μ-loop loop-holds mul-wide shared-slice-read-wide wide-requires mul-from add-end mul-write-words sub-write-words part-write-words-start
+    part-write-words-end write-words-requires add-to add-k loop-less loop-again same-length returns)

@@ -1,8 +1,8 @@
--- The numbers of the distinct rows, ascending, and the rows written by them.
+-- The indices of the distinct rows, ascending, and the rows written by them.
 use lib.ListN.{length, take}
 use native.Mathlib.Omega.{arith}
 use Rattle.definitions.specs.Limits.{maxUnionRows}
-use Rattle.rows.proofs.Numbers.{below-fit}
+use Rattle.rows.proofs.Indices.{below-fit}
 use Rattle.tables.proofs.UnionLaws.{few-words, cells-ordered}
 use borrow.Author.Needs.{needs}
 use Rattle.tables.proofs.union.order_cells.Statement.{statement}
@@ -25,10 +25,10 @@ write-rows-requires c κs =
     let o = c .before .before .before .before .order-rows in
     let q = c .before .before .before .before .before .before .before .before .before in
     let s = q .args in
-    let f = few-words (o .result) maxUnionRows (s .width) (omega (arith, o .ensures .0)) (q .pre .0) in (
+    let f = few-words (o .result) maxUnionRows (s .width) (omega (arith, o .ensures .0)) (q .pre .few-columns) in (
       search needs,
-      below-fit (s .width) (s .n) (length (s .wide .now)) (take (o .result) (o .last .1 .1 .1 .0)) (q .pre .2) (o .ensures .1 .below),
-      omega (arith, f, q .pre .3),
+      below-fit (s .width) (s .n) (length (s .wide .now)) (take (o .result) (o .last .1 .1 .1 .0)) (q .pre .fits) (o .ensures .1 .below),
+      omega (arith, f, q .pre .room),
     )
 
 same-length : tie.Need-same-length
@@ -40,7 +40,7 @@ returns c =
     let o = k .before .before .before .before .before in
     let q = o .before .before .before .before .before in
     let s = q .args in (
-      cells-ordered (s .width) (s .n) _ (s .wide .now) _ (s .cells .now) _ (q .pre .2) (search needs) (o .order-rows .ensures .1) (k .write-rows .ensures),
+      cells-ordered (s .width) (s .n) _ (s .wide .now) _ (s .cells .now) _ (q .pre .fits) (search needs) (o .order-rows .ensures .1) (k .write-rows .ensures),
       o .order-rows .ensures .0,
     )
 
@@ -48,10 +48,4 @@ pub order-cells-spec : {M : Type 1} → statement M
 order-cells-spec =
     tie.close
     (tie.spec
-    slice-aggregate-order-rows
-    slice-aggregate-order-rows-2
-    order-rows-requires
-    slice-aggregate-write-rows
-    write-rows-requires
-    same-length
-    returns)
+    slice-aggregate-order-rows slice-aggregate-order-rows-2 order-rows-requires slice-aggregate-write-rows write-rows-requires same-length returns)

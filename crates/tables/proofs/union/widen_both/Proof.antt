@@ -7,7 +7,7 @@ use lib.ListN.{length}
 use Rattle.definitions.specs.Limits.{maxRows}
 use Rattle.definitions.specs.OuterUnion.{widenedRows}
 use Rattle.definitions.proofs.Questions.{passed-is}
-use Rattle.tables.specs.Places.{inOrder, Covers}
+use Rattle.tables.specs.UnionIds.{inOrder, Covers}
 use Rattle.tables.proofs.Smaller.{distinct-count}
 use Rattle.tables.proofs.UnionLaws.{Counted, rows-few, first-fits, few-first, second-fits, second-empty, both-widened, union-covers}
 use borrow.Author.Needs.{needs}
@@ -66,8 +66,11 @@ cast-second c = search needs
 
 widen-table-requires : tie.Need-widen-table-requires
 widen-table-requires c κs =
-    let f = start c .pre .0 in
-    ((f .first, f .ids .differ, covers c .0, f .few), (first-fits (counted c), λ i h. start c .pre .1 i))
+    let f = start c .pre .0 in (
+      record { accepted = f .first; differ = f .ids .differ; covers = covers c .0 },
+      f .few,
+      record { room = first-fits (counted c); empty = λ i h. start c .pre .1 i },
+    )
 
 mul-widen-table : tie.Need-mul-widen-table
 mul-widen-table c = omega (arith, few-first (counted (c .before .before)))
@@ -77,8 +80,11 @@ widen-table-requires-2 c κs =
     let x = c .before in
     let k = x .before in
     let f = start k .pre .0 in
-    let first = x .widen-table .ensures in
-    ((f .second, f .ids .differ, covers k .1, f .few), (second-fits (counted k) first, second-empty (counted k) first (start k .pre .1)))
+    let first = x .widen-table .ensures in (
+      record { accepted = f .second; differ = f .ids .differ; covers = covers k .1 },
+      f .few,
+      record { room = second-fits (counted k) first; empty = second-empty (counted k) first (start k .pre .1) },
+    )
 
 add-result : tie.Need-add-result
 add-result c = search needs
@@ -99,14 +105,5 @@ pub widen-both-spec : {M : Type 1} → statement M
 widen-both-spec =
     tie.close
     (tie.spec
-    shared-slice-read-rows
-    rows-requires
-    cast-first
-    shared-slice-read-rows-2
-    rows-requires-2
-    cast-second
-    widen-table-requires
-    mul-widen-table
-    widen-table-requires-2
-    add-result
-    returns)
+    shared-slice-read-rows rows-requires cast-first shared-slice-read-rows-2 rows-requires-2 cast-second widen-table-requires mul-widen-table
+    widen-table-requires-2 add-result returns)

@@ -10,22 +10,22 @@ use Rattle.definitions.specs.Image.{rowCount}
 use Rattle.definitions.proofs.Questions.{passed-is}
 use Rattle.lists.proofs.Pastes.{paste-all}
 use Rattle.definitions.specs.OuterUnion.{widenedRows}
-use Rattle.tables.specs.Places.{inOrder}
+use Rattle.tables.specs.UnionIds.{inOrder}
 use Rattle.tables.proofs.Smaller.{distinct-count}
 use Rattle.tables.proofs.WidenLaws.{Widening, widen-starts, source-within, target-within, cells-within, widen-turn}
 use Rattle.tables.proofs.widen.widen_rows.Statement.{statement}
 use Rattle.tables.proofs.widen.widen_rows.Tie as tie
 
 abbrev Inv-loop : tie.InvT-loop
-Inv-loop image all places cells₀ at header columns rows width i₀ from₀ to₀ cells i from to = Widening image (inOrder all) cells₀ at columns i from to cells
+Inv-loop image all indices cells₀ at header columns rows width i₀ from₀ to₀ cells i from to = Widening image (inOrder all) cells₀ at columns i from to cells
 
 abbrev μ-loop : tie.MeasureT-loop
-μ-loop image all places cells₀ at header columns rows width i₀ from₀ to₀ cells i from to = rows - i
+μ-loop image all indices cells₀ at header columns rows width i₀ from₀ to₀ cells i from to = rows - i
 
 shared-slice-read-header : tie.Need-shared-slice-read-header Inv-loop μ-loop
 shared-slice-read-header c =
     let q = c .before .before .before .before .before in
-    passed-is maxRows (q .args .image .now) .0 (q .pre .0 .0) .first-word
+    passed-is maxRows (q .args .image .now) .0 (q .pre .0 .accepted) .first-word
 
 columns-requires : tie.Need-columns-requires Inv-loop μ-loop
 columns-requires c κs = search needs
@@ -46,9 +46,9 @@ loop-holds : tie.Need-loop-holds Inv-loop μ-loop
 loop-holds c =
     let q = c .before .before .before .before .before .before .before in
     let s = q .args in
-    widen-starts (s .image .now) (inOrder (s .all .now)) (s .cells .now) (s .at) _ (q .pre .0 .0) (c .before .columns .ensures) (q .pre .1 .0)
+    widen-starts (s .image .now) (inOrder (s .all .now)) (s .cells .now) (s .at) _ (q .pre .0 .accepted) (c .before .columns .ensures) (q .pre .2 .room)
 
--- in the loop: there is a row more, it is within the image, and its place within the cells
+-- in the loop: there is a row more, it is within the image, and its index within the cells
 module _ (c : tie.In-loop Inv-loop μ-loop) where
   abbrev turn : tie.At-loop Inv-loop μ-loop
   turn = c .before
@@ -64,7 +64,7 @@ module _ (c : tie.In-loop Inv-loop μ-loop) where
 
   -- the ids are as many as in order
   even : length (inOrder (start .args .all .now)) ≡ length (start .args .all .now)
-  even = distinct-count (start .args .all .now) (start .pre .0 .1)
+  even = distinct-count (start .args .all .now) (start .pre .0 .differ)
 
   target : turn .loop .to + length (start .args .all .now) ≤ length (start .args .cells .now)
   target = omega (arith, even, target-within (turn .loop .inv) more)
@@ -88,7 +88,7 @@ widen-row-requires : tie.Need-widen-row-requires Inv-loop μ-loop
 widen-row-requires c κs =
     let l = c .before .before in
     let q = start l in
-    cells-within (turn l .loop .inv) (more l) (q .args .places .now) (q .pre .0 .2) (q .pre .0 .3)
+    cells-within (turn l .loop .inv) (more l) (q .args .indices .now) (q .pre .0 .covers) (q .pre .1)
 
 add-to : tie.Need-add-to Inv-loop μ-loop
 add-to c = let w = target (c .before .before .before .before .before) in search needs
@@ -104,7 +104,7 @@ loop-again c =
     let k = c .before .before in
     let l = k .before .before .before in
     let q = start l in
-    let next = widen-turn (turn l .loop .inv) (more l) (q .args .places .now) (q .pre .0 .2) (q .pre .0 .3) (q .pre .1 .1) _ (k .widen-row .ensures) in
+    let next = widen-turn (turn l .loop .inv) (more l) (q .args .indices .now) (q .pre .0 .covers) (q .pre .1) (q .pre .2 .empty) _ (k .widen-row .ensures) in
     rw (even l) at next
 
 same-length : tie.Need-same-length Inv-loop μ-loop
@@ -126,24 +126,5 @@ pub widen-rows-spec : {M : Type 1} → statement M
 widen-rows-spec =
     tie.close
     (tie.spec
-    Inv-loop
-    μ-loop
-    shared-slice-read-header
-    columns-requires
-    cast-columns
-    rows-requires
-    cast-rows
-    add-from
-    loop-holds
-    add-end
-    mul-widen-row
-    sub-widen-row
-    part-widen-row-start
-    part-widen-row-end
-    widen-row-requires
-    add-to
-    add-i
-    loop-less
-    loop-again
-    same-length
-    returns)
+    Inv-loop μ-loop shared-slice-read-header columns-requires cast-columns rows-requires cast-rows add-from loop-holds add-end mul-widen-row
+    sub-widen-row part-widen-row-start part-widen-row-end widen-row-requires add-to add-i loop-less loop-again same-length returns)

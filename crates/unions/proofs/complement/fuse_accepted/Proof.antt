@@ -2,8 +2,8 @@
 use mathlib.Core.Path.{refl}
 use Rattle.definitions.specs.OuterUnion.{unionIds, unionRows}
 use Rattle.tables.specs.declared.Table.{Table}
-use Rattle.tables.specs.Table.{Holds}
-use Rattle.tables.proofs.UnionLaws.{filled-holds}
+use Rattle.tables.specs.Table.{TableOf}
+use Rattle.tables.proofs.UnionLaws.{filled-table}
 use Rattle.unions.proofs.Fusing.{work-table, union-promised}
 use borrow.Author.Needs.{needs}
 use Rattle.unions.proofs.complement.fuse_accepted.Statement.{statement}
@@ -24,8 +24,8 @@ module _ (c : tie.After-union-rows) where
       let new = c .before .before .new .result in
       record { cells = c .union-rows .last .1 .1 .1 .0; ids = new .ids; rows = c .union-rows .result; columns = new .columns }
 
-  held : Holds work (unionIds (start .args .a .now) (start .args .b .now)) (unionRows (start .args .a .now) (start .args .b .now))
-  held = let n = c .before .before .new in filled-holds (start .pre) (n .result) (n .ensures) refl refl (c .union-rows .ensures)
+  held : TableOf work (unionIds (start .args .a .now) (start .args .b .now)) (unionRows (start .args .a .now) (start .args .b .now))
+  held = let n = c .before .before .new in filled-table (start .pre) (n .result) (n .ensures) refl refl (c .union-rows .ensures)
 
 fuse-table-requires : tie.Need-fuse-table-requires
 fuse-table-requires c κs = let t = c .before .before .before .before .before .before .before in work-table (start t .pre) (held t)

@@ -7,8 +7,8 @@ use Rattle.definitions.specs.OuterUnion.{unionIds, unionRows}
 use Rattle.definitions.specs.MinimumUnion.{minimumRows, pairsTried}
 use Rattle.definitions.specs.Calls.{minimumImage, minimumOutcome}
 use Rattle.tables.specs.declared.Table.{Table}
-use Rattle.tables.specs.Table.{Holds}
-use Rattle.tables.proofs.UnionLaws.{filled-holds}
+use Rattle.tables.specs.Table.{TableOf}
+use Rattle.tables.proofs.UnionLaws.{filled-table}
 use Rattle.unions.proofs.Tables.{cells-there, Result, minimum-result}
 use Rattle.unions.proofs.Ends.{refused-room, done-room}
 use borrow.Author.Needs.{needs}
@@ -33,11 +33,11 @@ module _ (c : tie.After-kept) where
       let new = u .before .before .new .result in
       record { cells = u .union-rows .last .1 .1 .1 .0; ids = new .ids; rows = u .union-rows .result; columns = new .columns }
 
-  held : Holds work (unionIds (start .args .a .now) (start .args .b .now)) (unionRows (start .args .a .now) (start .args .b .now))
+  held : TableOf work (unionIds (start .args .a .now) (start .args .b .now)) (unionRows (start .args .a .now) (start .args .b .now))
   held =
       let u = c .before .before .before .before in
       let n = u .before .before .new in
-      filled-holds (start .pre) (n .result) (n .ensures) refl refl (u .union-rows .ensures)
+      filled-table (start .pre) (n .result) (n .ensures) refl refl (u .union-rows .ensures)
 
 slice-aggregate-minimum-rows : tie.Need-slice-aggregate-minimum-rows
 slice-aggregate-minimum-rows c = search needs

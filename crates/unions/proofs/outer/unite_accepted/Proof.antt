@@ -5,8 +5,8 @@ use native.Mathlib.Omega.{arith}
 use Rattle.definitions.specs.OuterUnion.{unionIds, unionRows}
 use Rattle.definitions.specs.Calls.{outerImage, outerOutcome}
 use Rattle.tables.specs.declared.Table.{Table}
-use Rattle.tables.specs.Table.{bothRows, Holds}
-use Rattle.tables.proofs.UnionLaws.{filled-holds}
+use Rattle.tables.specs.Table.{bothRows, TableOf}
+use Rattle.tables.proofs.UnionLaws.{filled-table}
 use Rattle.unions.proofs.Tables.{cells-there, Result, outer-result}
 use Rattle.unions.proofs.Ends.{refused-room, done-room}
 use borrow.Author.Needs.{needs}
@@ -31,11 +31,11 @@ module _ (c : tie.After-spare) where
       let new = u .before .before .new .result in
       record { cells = u .widen-both .last .1 .1 .1 .0; ids = new .ids; rows = u .widen-both .result; columns = new .columns }
 
-  held : Holds work (unionIds (start .args .a .now) (start .args .b .now)) (bothRows (start .args .a .now) (start .args .b .now))
+  held : TableOf work (unionIds (start .args .a .now) (start .args .b .now)) (bothRows (start .args .a .now) (start .args .b .now))
   held =
       let u = c .before .before .before .before .before in
       let n = u .before .before .new in
-      filled-holds (start .pre) (n .result) (n .ensures) refl refl (u .widen-both .ensures)
+      filled-table (start .pre) (n .result) (n .ensures) refl refl (u .widen-both .ensures)
 
 slice-aggregate-order-rows : tie.Need-slice-aggregate-order-rows
 slice-aggregate-order-rows c = search needs

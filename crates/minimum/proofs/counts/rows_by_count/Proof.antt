@@ -1,4 +1,4 @@
--- `mark_counts` meets its contract. The loop's invariant: each word holds, of the first j rows, those with its count. Assumes nothing.
+-- `rows_by_count` meets its contract. The loop's invariant: each word holds, of the first j rows, those with its count. Assumes nothing.
 use borrow.Author.Needs.{needs}
 use Prim.Native.Nat.{ℕ, _-_, _≤_, _<_}
 use mathlib.Core.Path.{_≡_, refl, _∙_, subst}
@@ -6,8 +6,8 @@ use native.Mathlib.Omega.{arith}
 use lib.ListN.{length, getD, length-set}
 use Rattle.minimum.specs.Candidates.{EqualTo}
 use Rattle.minimum.proofs.Counting.{equal-none, equal-turn}
-use Rattle.minimum.proofs.counts.mark_counts.Statement.{statement}
-use Rattle.minimum.proofs.counts.mark_counts.Tie as tie
+use Rattle.minimum.proofs.counts.rows_by_count.Statement.{statement}
+use Rattle.minimum.proofs.counts.rows_by_count.Tie as tie
 
 abbrev Inv-loop : tie.InvT-loop
 Inv-loop counts words₀ j₀ words j = (j ≤ length counts) × (length words ≡ length words₀) × EqualTo counts j words
@@ -81,23 +81,9 @@ returns c =
     let e : l .j ≡ length (a .counts .now) = omega arith in
     subst (λ (n : ℕ). EqualTo (a .counts .now) n (l .words)) e (l .inv .2)
 
-pub mark-counts-spec : {M : Type 1} → statement M
-mark-counts-spec =
+pub rows-by-count-spec : {M : Type 1} → statement M
+rows-by-count-spec =
     tie.close
     (tie.spec
-    Inv-loop
-    μ-loop
-    loop-holds
-    mul-k
-    shared-slice-read-k
-    cast-k
-    mul-words
-    slice-read-words
-    shl-words
-    mul-words-2
-    slice-write-words
-    add-j
-    loop-less
-    loop-again
-    same-length
-    returns)
+    Inv-loop μ-loop loop-holds mul-k shared-slice-read-k cast-k mul-words slice-read-words shl-words mul-words-2 slice-write-words add-j loop-less
+    loop-again same-length returns)

@@ -1,9 +1,9 @@
--- `place_of` meets its contract: a row that stands among ascending rows has no free spot, and its spot is its place. Assumes nothing.
+-- `position_of` meets its contract: a row that stands among ascending rows has no free spot, and its spot is its position. Assumes nothing.
 use lib.ListN.{length}
 use borrow.Author.Needs.{needs}
-use Rattle.rows.proofs.Places.{place-taken, never-free}
-use Rattle.rows.proofs.search.place_of.Statement.{statement}
-use Rattle.rows.proofs.search.place_of.Tie as tie
+use Rattle.rows.proofs.Positions.{position-taken, never-free}
+use Rattle.rows.proofs.search.position_of.Statement.{statement}
+use Rattle.rows.proofs.search.position_of.Tie as tie
 
 find-row-requires : tie.Need-find-row-requires
 find-row-requires c κs = search needs
@@ -19,7 +19,7 @@ returns c =
     let a = c .before .before .before .before .before .before .before .args in
     let q = c .before .before .before .before .before .before .before .pre in
     let r = c .before .before .before .find-row in
-    place-taken (length (a .row .now)) (a .m) (a .cells .now) (a .order .now) (a .row .now) (q .0) (q .1)
+    position-taken (length (a .row .now)) (a .m) (a .cells .now) (a .order .now) (a .row .now) (q .0) (q .1)
     (r .result) (r .ensures) (c .before .p .given .0 .0) (c .before .p .given .1)
 
 returns-2 : tie.Need-returns-2
@@ -31,5 +31,5 @@ returns-2 c =
     (never-free (length (a .row .now)) (a .m) (a .cells .now) (a .order .now) (a .row .now) (q .0) (q .1)
     (r .result) (r .ensures) _ (q .2) (c .enum-told .given .1))
 
-pub place-of-spec : {M : Type 1} → statement M
-place-of-spec = tie.close (tie.spec find-row-requires enum-known-p enum-told returns returns-2)
+pub position-of-spec : {M : Type 1} → statement M
+position-of-spec = tie.close (tie.spec find-row-requires enum-known-p enum-told returns returns-2)

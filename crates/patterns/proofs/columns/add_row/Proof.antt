@@ -1,11 +1,11 @@
--- `mark_columns` meets its contract. The loop's invariant: the first c columns hold row j. Assumes nothing.
+-- `add_row` meets its contract. The loop's invariant: the first c columns hold row j. Assumes nothing.
 use borrow.Author.Needs.{needs}
 use Prim.Native.Nat.{_-_, _≤_}
 use native.Mathlib.Omega.{arith}
 use lib.ListN.{length}
 use Rattle.patterns.proofs.FilledRows.{FilledTo, filled-to-none, filled-to-turn, filled-to-end}
-use Rattle.patterns.proofs.columns.mark_columns.Statement.{statement}
-use Rattle.patterns.proofs.columns.mark_columns.Tie as tie
+use Rattle.patterns.proofs.columns.add_row.Statement.{statement}
+use Rattle.patterns.proofs.columns.add_row.Tie as tie
 
 abbrev Inv-loop : tie.InvT-loop
 Inv-loop row j columns₀ c₀ columns c = (c ≤ length row) × FilledTo row j columns₀ c columns
@@ -68,24 +68,9 @@ returns c =
     let l = c .before .loop in
     filled-to-end (a .row .now) (a .j) (a .columns .now) (l .c) (l .columns) (search needs) (s .pre .1) (l .inv .1)
 
-pub mark-columns-spec : {M : Type 1} → statement M
-mark-columns-spec =
+pub add-row-spec : {M : Type 1} → statement M
+add-row-spec =
     tie.close
     (tie.spec
-    Inv-loop
-    μ-loop
-    loop-holds
-    mul-bit
-    shared-slice-read-bit
-    bit-requires
-    cast-held
-    mul-columns
-    slice-read-columns
-    shl-columns
-    mul-columns-2
-    slice-write-columns
-    add-c
-    loop-less
-    loop-again
-    same-length
-    returns)
+    Inv-loop μ-loop loop-holds mul-bit shared-slice-read-bit bit-requires cast-held mul-columns slice-read-columns shl-columns mul-columns-2
+    slice-write-columns add-c loop-less loop-again same-length returns)

@@ -1,11 +1,10 @@
--- The places of ids in a union, and the cells of a row written at such places.
+-- The indices of ids in a union, and the cells of a row written at such indices.
 use mathlib.Core.Path.{_≡_}
 use mathlib.Core.Bool.{true, not}
 use mathlib.Core.List.{List, [], _∷_, _++_, map}
 use Prim.Native.Nat.{ℕ, _+_}
 use lib.Dec.{eqb, ltb}
 use lib.ListN.{length, set}
-use Rattle.definitions.specs.Limits.{maxColumns}
 use Rattle.definitions.specs.Lists.{any, filter, distinct}
 use Rattle.definitions.specs.Image.{imageIds}
 use Rattle.definitions.specs.Ascending.{ascending}
@@ -29,15 +28,15 @@ pub record BothIds (a b all : List ℕ) : Type 0 where
 abbrev pub smallerThan : ℕ → List ℕ → ℕ
 smallerThan x words = length (filter (λ y. ltb y x) words)
 
--- the place of each id in an ascending list
-abbrev pub placesIn : List ℕ → List ℕ → List ℕ
-placesIn union ids = map (λ id. smallerThan id union) ids
+-- the index of each id in an ascending list
+abbrev pub indicesIn : List ℕ → List ℕ → List ℕ
+indicesIn union ids = map (λ id. smallerThan id union) ids
 
--- the cells of a row written one by one, each at its place from at
+-- the cells of a row written one by one, each at its index from at
 unfoldable pub scattered : List ℕ → ℕ → List ℕ → List ℕ → List ℕ
 scattered cells at [] row = cells
-scattered cells at (p ∷ places) [] = cells
-scattered cells at (p ∷ places) (v ∷ row) = scattered (set cells (at + p) v) at places row
+scattered cells at (p ∷ indices) [] = cells
+scattered cells at (p ∷ indices) (v ∷ row) = scattered (set cells (at + p) v) at indices row
 
 -- a union's ids are strictly ascending and have every id of the image
 pub record Covers (union image : List ℕ) : Type 0 where
