@@ -11,10 +11,11 @@ use Rattle.definitions.specs.Lists.{allBelow}
 use Rattle.definitions.specs.ComplementUnion.{contains, adjacentToAll, maximalSets}
 use Rattle.definitions.specs.SetList.{bits}
 use Rattle.definitions.specs.Statements.{Member, StrictlyAscending}
+use Rattle.definitions.specs.Claims.{Holds, Maximal}
 use Rattle.definitions.proofs.Bools.{bool-cases, clash, not-so}
 use Rattle.definitions.proofs.Lists.{member-map, map-member, below-true, below-false}
 use Rattle.definitions.proofs.Orders.{sets}
-use Rattle.definitions.proofs.Sets.{Holds, Maximal, holds-within, adjacent-all, adjacent-some-not, listed-is, listed-rise}
+use Rattle.definitions.proofs.Sets.{holds-within, adjacent-all, adjacent-some-not, listed-is, listed-rise}
 use Rattle.bitsets.specs.Bits.{has, rowsBelow, compareBits}
 use Rattle.cliques.specs.Maximal.{Max}
 use Rattle.bitsets.proofs.Bits.{has-ext, has-bits, below-of, below-in}

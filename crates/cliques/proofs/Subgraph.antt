@@ -10,10 +10,11 @@ use borrow.Author.Tests.{eqb-true, eq-eqb, not-true, not-false}
 use Rattle.definitions.specs.Lists.{allBelow}
 use Rattle.definitions.specs.ComplementUnion.{contains, maximalSets}
 use Rattle.definitions.specs.Statements.{Member}
+use Rattle.definitions.specs.Claims.{Holds, Complementing, Maximal}
 use Rattle.definitions.proofs.Bools.{bool-eq, bool-cases, clash, not-so, and-l, and-r, and-i}
 use Rattle.definitions.proofs.Lists.{member-map, below-true, below-false}
 use Rattle.definitions.proofs.Orders.{sets}
-use Rattle.definitions.proofs.Sets.{Holds, Complementing, Maximal, holds-within, marks-ext, listed-is, listed-rise}
+use Rattle.definitions.proofs.Sets.{holds-within, marks-ext, listed-is, listed-rise}
 use Rattle.definitions.proofs.Completion.{completion}
 use Rattle.cliques.proofs.Sublists.{no-longer}
 use Rattle.cliques.proofs.Tabulate.{tabulate, tabulate-length, tabulate-at, tabulate-pass}

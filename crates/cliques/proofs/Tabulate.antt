@@ -7,7 +7,8 @@ use native.Mathlib.Nat.{not-suc-le-zero, le-of-suc-le-suc}
 use native.Mathlib.Omega.{arith}
 use lib.ListN.{length}
 use Rattle.definitions.specs.ComplementUnion.{contains}
-use Rattle.definitions.proofs.Sets.{Holds, holds-within}
+use Rattle.definitions.specs.Claims.{Holds}
+use Rattle.definitions.proofs.Sets.{holds-within}
 
 unfoldable pub tabulate : ℕ → (ℕ → Bool) → List Bool
 tabulate zero p = []

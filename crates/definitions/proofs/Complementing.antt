@@ -9,16 +9,9 @@ use lib.ListN.{getD}
 use borrow.Author.Tests.{not-true}
 use Rattle.definitions.specs.MinimumUnion.{subsumes}
 use Rattle.definitions.specs.ComplementUnion.{sameRow, agree, share, complement}
+use Rattle.definitions.specs.Claims.{CellAgrees, Shared, Complements}
 use Rattle.definitions.proofs.Bools.{bool-eq, clash, not-so, and-l, and-r, and-i}
-use Rattle.definitions.proofs.Rows.{CellAgrees, agree-at, agree-of, Shared, share-at, share-is, same-is}
-
--- "Rows s and t complement each other if (1) .. (2) .. (3) .."
-pub record Complements (s t : List ℕ) : Type 0 where
-  pub agreeing : (k : ℕ) → CellAgrees (getD s k 0) (getD t k 0)
-  pub different : s ≡ t → ⊥
-  pub not-subsuming : subsumes s t ≡ false
-  pub not-subsumed : subsumes t s ≡ false
-  pub sharing : Shared s t
+use Rattle.definitions.proofs.Rows.{agree-at, agree-of, share-at, share-is, same-is}
 
 pub complement-is : (s t : List ℕ) → (complement s t ≡ true) ↔ Complements s t
 unfolding complement

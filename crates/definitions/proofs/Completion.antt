@@ -8,9 +8,10 @@ use native.Mathlib.Omega.{arith}
 use lib.ListN.{length, replicate, length-set, length-replicate, getD-replicate}
 use Rattle.definitions.specs.ComplementUnion.{contains, adjacentToAll, maximalSets}
 use Rattle.definitions.specs.Statements.{Member}
+use Rattle.definitions.specs.Claims.{Holds, Complementing}
 use Rattle.definitions.proofs.Bools.{bool-cases, clash}
 use Rattle.definitions.proofs.Lists.{below-cases}
-use Rattle.definitions.proofs.Sets.{Holds, Complementing, contains-get, holds-within, adding, adding-same, adding-other, adding-keeps, adding-cases, adjacent-all, adjacent-some-not, listed-is}
+use Rattle.definitions.proofs.Sets.{contains-get, holds-within, adding, adding-same, adding-other, adding-keeps, adding-cases, adjacent-all, adjacent-some-not, listed-is}
 
 module _ (adjacent : ℕ → ℕ → Bool) (n : ℕ) (symmetric : (j k : ℕ) → j < n → k < n → adjacent j k ≡ true → adjacent k j ≡ true) where
   -- t holds all that s holds, and every position below i that it doesn't hold is not near to some member

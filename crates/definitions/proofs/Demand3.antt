@@ -11,6 +11,7 @@ use Rattle.definitions.specs.ComplementUnion.{compareSet, complementAt, 
 use Rattle.definitions.specs.SetList.{fusedPosition}
 use Rattle.definitions.specs.Statements.{Member, StrictlyAscending}
 use Rattle.definitions.specs.Demand3.{MaximalRows}
+use Rattle.definitions.specs.Claims.{JoinedOf}
 use Rattle.definitions.proofs.Lists.{member-at}
 use Rattle.definitions.proofs.Complementing.{complement-sym}
 use Rattle.definitions.proofs.Sets.{listed-is, listed-rise}
@@ -18,7 +19,7 @@ use Rattle.definitions.proofs.Completion.{every-position}
 use Rattle.definitions.proofs.MaximalRows.{maximal-rows, rows-maximal}
 use Rattle.definitions.proofs.Joined.{members-are, member-covered}
 use Rattle.definitions.proofs.Minimum.{minimum-is}
-use Rattle.definitions.proofs.Unions.{rows-rise, rows-even, fused-rise, fused-are, JoinedOf}
+use Rattle.definitions.proofs.Unions.{rows-rise, rows-even, fused-rise, fused-are}
 use Rattle.definitions.proofs.SetWords.{fused-position-within, fused-position-at}
 
 module _ (a b : List ℕ) where

@@ -13,8 +13,9 @@ use Rattle.definitions.specs.Word.{rowsOf, columnsOf, headerWord, idOf, 
 use Rattle.definitions.specs.Image.{columnCount, rowCount, columnWords, imageIds, cellWords, rowsIn, imageRows, imageOf}
 use Rattle.definitions.specs.OuterUnion.{compareRow, unionIds, widened, widenedRows, unionRows}
 use Rattle.definitions.specs.Statements.{Member}
+use Rattle.definitions.specs.Claims.{Passed}
 use Rattle.definitions.proofs.Counts.{ascending-length}
-use Rattle.definitions.proofs.Questions.{Passed, passed-is}
+use Rattle.definitions.proofs.Questions.{passed-is}
 use Rattle.definitions.specs.Calls.{Accepted}
 
 -- ---- the image of a table

@@ -13,12 +13,13 @@ use Rattle.definitions.specs.Word.{isFilled}
 use Rattle.definitions.specs.MinimumUnion.{covers, subsumes}
 use Rattle.definitions.specs.ComplementUnion.{agree, complement, complementAt, contains, members, join, joinAll, joined}
 use Rattle.definitions.specs.Statements.{Member}
+use Rattle.definitions.specs.Claims.{Filled, CellAgrees, Holds, Complementing, MemberAt}
 use Rattle.definitions.proofs.Bools.{bool-cases, clash}
 use Rattle.definitions.proofs.Lists.{member-get}
-use Rattle.definitions.proofs.Rows.{Filled, filled-cell, empty-cell, cell-filled, cell-empty, CellAgrees, agree-at, agree-of, covers-of}
+use Rattle.definitions.proofs.Rows.{filled-cell, empty-cell, cell-filled, cell-empty, agree-at, agree-of, covers-of}
 use Rattle.definitions.proofs.Subsumption.{covers-cases}
 use Rattle.definitions.proofs.Complementing.{complement-is}
-use Rattle.definitions.proofs.Sets.{Holds, Complementing, holds-within}
+use Rattle.definitions.proofs.Sets.{holds-within}
 
 -- ---- the joined row of a list of rows
 
@@ -114,10 +115,6 @@ members-at (r ∷ rows) (m ∷ s) zero h e = rw e (inl refl)
 members-at (r ∷ rows) (m ∷ s) (suc k) h e =
     let i = members-at rows s k (le-of-suc-le-suc h) e in
     bool-cases m (λ q. rw q (inr i)) (λ q. rw q i)
-
--- a row and its position in the set
-abbrev pub MemberAt : List (List ℕ) → List Bool → List ℕ → Type 0
-MemberAt rows s r = (k : ℕ) × (k < length rows) × Holds s k × (r ≡ getD rows k [])
 
 members-from : (rows : List (List ℕ)) (s : List Bool) (r : List ℕ) → Member r (members rows s) → MemberAt rows s r
 unfolding members contains

@@ -12,11 +12,12 @@ use Rattle.definitions.specs.OuterUnion.{compareRow}
 use Rattle.definitions.specs.ComplementUnion.{complement, contains, adjacentToAll, complementAt, members}
 use Rattle.definitions.specs.Statements.{Member, StrictlyAscending}
 use Rattle.definitions.specs.Demand3.{MaximalRows}
+use Rattle.definitions.specs.Claims.{Holds, Maximal}
 use Rattle.definitions.proofs.Bools.{bool-cases, clash}
 use Rattle.definitions.proofs.Ascending.{not-before-self, strict-get}
 use Rattle.definitions.proofs.Orders.{rows}
 use Rattle.definitions.proofs.Lists.{member-at, member-get}
-use Rattle.definitions.proofs.Sets.{Holds, Maximal, holds-within, adjacent-all, adjacent-some-not}
+use Rattle.definitions.proofs.Sets.{holds-within, adjacent-all, adjacent-some-not}
 use Rattle.definitions.proofs.Joined.{members-are}
 
 -- different positions of an ascending list have different rows

@@ -11,6 +11,7 @@ use Rattle.definitions.specs.Lists.{any}
 use Rattle.definitions.specs.OuterUnion.{compareRow}
 use Rattle.definitions.specs.MinimumUnion.{filled, subsumes, minimumRows}
 use Rattle.definitions.specs.Statements.{Member, StrictlyAscending}
+use Rattle.definitions.specs.Claims.{Stayer}
 use Rattle.definitions.proofs.Bools.{bool-cases, not-so}
 use Rattle.definitions.proofs.Lists.{member-filter, filter-member, strict-filter, any-true, any-false, any-none}
 use Rattle.definitions.proofs.Subsumption.{subsumes-is, subsumes-trans}
@@ -31,10 +32,6 @@ module _ (rows : List (List ℕ)) where
   pub minimum-rise : StrictlyAscending compareRow rows → StrictlyAscending compareRow (minimumRows rows)
   unfolding minimumRows
   minimum-rise h = strict-filter stays compareRow rows h
-
-  -- a row of the minimum union that is t, or subsumes it
-  abbrev pub Stayer : List ℕ → Type 0
-  Stayer t = (s : List ℕ) × Member s (minimumRows rows) × ((s ≡ t) ⊎ (subsumes s t ≡ true))
 
 -- no row has more filled cells than all have together
 total : List (List ℕ) → ℕ

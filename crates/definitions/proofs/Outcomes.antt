@@ -16,6 +16,7 @@ use Rattle.definitions.specs.ComplementUnion.{unionSets, fusedRows}
 use Rattle.definitions.specs.SetList.{setList}
 use Rattle.definitions.specs.Questions.{imageNumber}
 use Rattle.definitions.specs.Answer.{Outcome, done, refused, unless, no}
+use Rattle.definitions.specs.Claims.{TableDone, ComplementDone}
 use Rattle.definitions.specs.Calls.{Accepted, pairNumber, tableRoom, outerImage, minimumImage, fusedImage, outerOutcome, minimumOutcome, complementOutcome}
 
 unless-done : (number table : ℕ) (rest : Outcome) (values : List ℕ) → unless number table rest ≡ done values → (number ≡ 0) × (rest ≡ done values)
@@ -65,12 +66,6 @@ accepted-done a b rest values e =
 
 -- ---- outer union and minimum union, done
 
--- the pair is accepted, the table buffer has room for the image, and the answer carries these counts
-pub record TableDone (a b image : List ℕ) (room : ℕ) (counts values : List ℕ) : Type 0 where
-  pub accepted : Accepted a b
-  pub table-room : length image ≤ room
-  pub carries : values ≡ counts
-
 same-values : (counts values : List ℕ) → done counts ≡ done values → values ≡ counts
 same-values counts values e = cc
 
@@ -100,15 +95,6 @@ unfolding minimumOutcome
 minimum-done a b room values = table-done a b (minimumImage a b) room _ values
 
 -- ---- complement union, done
-
-pub record ComplementDone (a b : List ℕ) (room setRoom : ℕ) (values : List ℕ) : Type 0 where
-  pub accepted : Accepted a b
-  pub few-sets : length (unionSets (unionRows a b)) ≤ maxSets
-  pub table-room : length (fusedImage a b) ≤ room
-  pub set-room : length (setList (unionRows a b)) ≤ setRoom
-  pub carries : values
-      ≡ length (fusedRows (unionRows a b)) ∷ length (fusedImage a b) ∷ filled (flatten (fusedRows (unionRows a b)))
-      ∷ length (unionSets (unionRows a b)) ∷ length (setList (unionRows a b)) ∷ []
 
 pub complement-done : (a b : List ℕ) (room setRoom : ℕ) (values : List ℕ) → (complementOutcome a b room setRoom ≡ done values) ↔ ComplementDone a b room setRoom values
 unfolding complementOutcome

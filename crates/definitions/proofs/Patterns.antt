@@ -10,10 +10,11 @@ use borrow.Author.Tests.{not-true}
 use Rattle.definitions.specs.Word.{isFilled}
 use Rattle.definitions.specs.MinimumUnion.{covers, subsumes}
 use Rattle.definitions.specs.ComplementUnion.{agree, share, complement}
+use Rattle.definitions.specs.Claims.{Filled, Complements}
 use Rattle.definitions.proofs.Bools.{bool-cases, bool-eq, clash, not-so, and-l, and-r, and-i, or-cases, or-l, or-r}
-use Rattle.definitions.proofs.Rows.{Filled, filled-cell, empty-cell, cell-filled, cell-empty, covers-at, covers-of, agree-at, agree-of, share-at, share-is}
+use Rattle.definitions.proofs.Rows.{filled-cell, empty-cell, cell-filled, cell-empty, covers-at, covers-of, agree-at, agree-of, share-at, share-is}
 use Rattle.definitions.proofs.Subsumption.{covers-self, covers-cases, subsumes-is}
-use Rattle.definitions.proofs.Complementing.{Complements, complement-is, complements-sym}
+use Rattle.definitions.proofs.Complementing.{complement-is, complements-sym}
 
 -- some column is filled in s and empty in t
 unfoldable pub only : List ℕ → List ℕ → Bool

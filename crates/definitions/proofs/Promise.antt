@@ -19,10 +19,11 @@ use Rattle.definitions.specs.Reading.{setCount}
 use Rattle.definitions.specs.Statements.{Member, StrictlyAscending}
 use Rattle.definitions.specs.Demand3.{listedSets, positionAt, Demand3, Fused, tableWords, setWords, SameResult}
 use Rattle.definitions.specs.Promise.{ComplementPromise}
+use Rattle.definitions.specs.Claims.{ComplementDone}
 use Rattle.definitions.proofs.Lists.{member-get}
 use Rattle.definitions.proofs.Counts.{fused-count}
 use Rattle.definitions.proofs.Unions.{rows-even, fused-even}
-use Rattle.definitions.proofs.Outcomes.{accepted-on, ComplementDone, complement-done}
+use Rattle.definitions.proofs.Outcomes.{accepted-on, complement-done}
 use Rattle.definitions.proofs.Images.{image-rows-front, accepted-rows}
 use Rattle.definitions.proofs.Reading.{count-read, sets-read, positions-at}
 use Rattle.definitions.proofs.Demand3.{listed-exactly, listed-once, listed-with-row, fused-exactly, fused-once}
@@ -114,51 +115,51 @@ module _ (a b table sets : List ℕ) (answer : Outcome) (tableAfter setsAfter : 
 -- ---- the words that a call has written, and those past them
 
 -- the words of a result that an answer writes: all, or on a refusal none
-abbrev written : Outcome → List ℕ → List ℕ
-written (done values) result = result
-written (refused number table) result = []
+abbrev writtenWords : Outcome → List ℕ → List ℕ
+writtenWords (done values) result = result
+writtenWords (refused number table) result = []
 
 -- a buffer begins with the written words, and has past them what was found there
 module _ (answer : Outcome) (result found after : List ℕ) (w : after ≡ afterwards answer result found) (n : ℕ)
-    (size : length (written answer result) ≡ n) where
-  parts : after ≡ written answer result ++ drop (length (written answer result)) found
+    (size : length (writtenWords answer result) ≡ n) where
+  parts : after ≡ writtenWords answer result ++ drop (length (writtenWords answer result)) found
   parts = w ∙ apart answer
     where
-      apart : (o : Outcome) → afterwards o result found ≡ written o result ++ drop (length (written o result)) found
+      apart : (o : Outcome) → afterwards o result found ≡ writtenWords o result ++ drop (length (writtenWords o result)) found
       apart (done values) = refl
       apart (refused number table) = refl
 
-  front : take n after ≡ written answer result
-  front = ap (take n) parts ∙ take-at (written answer result) _ n size
+  front : take n after ≡ writtenWords answer result
+  front = ap (take n) parts ∙ take-at (writtenWords answer result) _ n size
 
   past : drop n after ≡ drop n found
-  past = ap (drop n) parts ∙ drop-at (written answer result) _ n size ∙ ap (λ (k : ℕ). drop k found) size
+  past = ap (drop n) parts ∙ drop-at (writtenWords answer result) _ n size ∙ ap (λ (k : ℕ). drop k found) size
 
 -- the counts that an answer of complement union carries
 table-count : (a b : List ℕ) (room setRoom : ℕ) (x : Outcome) → x ≡ complementOutcome a b room setRoom
-    → length (written x (fusedImage a b)) ≡ tableWords x
+    → length (writtenWords x (fusedImage a b)) ≡ tableWords x
 table-count a b room setRoom (done values) e =
     sym (ap (λ (l : List ℕ). getD l 1 0) (complement-done a b room setRoom values .0 (sym e) .carries))
 table-count a b room setRoom (refused number table) e = refl
 
 set-count : (a b : List ℕ) (room setRoom : ℕ) (x : Outcome) → x ≡ complementOutcome a b room setRoom
-    → length (written x (setList (unionRows a b))) ≡ setWords x
+    → length (writtenWords x (setList (unionRows a b))) ≡ setWords x
 set-count a b room setRoom (done values) e =
     sym (ap (λ (l : List ℕ). getD l 4 0) (complement-done a b room setRoom values .0 (sym e) .carries))
 set-count a b room setRoom (refused number table) e = refl
 
 module _ {a b table sets : List ℕ} {answer : Outcome} {tableAfter setsAfter : List ℕ}
     (p : ComplementPromise a b table sets answer tableAfter setsAfter) where
-  table-size : length (written answer (fusedImage a b)) ≡ tableWords answer
+  table-size : length (writtenWords answer (fusedImage a b)) ≡ tableWords answer
   table-size = table-count a b (length table) (length sets) answer (p .answers)
 
-  set-size : length (written answer (setList (unionRows a b))) ≡ setWords answer
+  set-size : length (writtenWords answer (setList (unionRows a b))) ≡ setWords answer
   set-size = set-count a b (length table) (length sets) answer (p .answers)
 
-  table-front : take (tableWords answer) tableAfter ≡ written answer (fusedImage a b)
+  table-front : take (tableWords answer) tableAfter ≡ writtenWords answer (fusedImage a b)
   table-front = front answer (fusedImage a b) table tableAfter (p .writes) (tableWords answer) table-size
 
-  set-front : take (setWords answer) setsAfter ≡ written answer (setList (unionRows a b))
+  set-front : take (setWords answer) setsAfter ≡ writtenWords answer (setList (unionRows a b))
   set-front = front answer (setList (unionRows a b)) sets setsAfter (p .lists) (setWords answer) set-size
 
   -- "Words past the written ones stay as found."
@@ -192,8 +193,8 @@ module _ (a b c d : List ℕ) (ab : Accepted a b) (cd : Accepted c d) (columns :
       p .answers ∙ same-outcome (length table₁) (length sets₁) ∙ ap₂ (complementOutcome c d) room setRoom ∙ sym (q .answers) in
       record {
         answer = e;
-        table-words = table-front p ∙ ap₂ written e same-image ∙ sym (table-front q);
-        set-words = set-front p ∙ ap₂ written e (ap setList rows) ∙ sym (set-front q);
+        table-words = table-front p ∙ ap₂ writtenWords e same-image ∙ sym (table-front q);
+        set-words = set-front p ∙ ap₂ writtenWords e (ap setList rows) ∙ sym (set-front q);
       }
 
 -- answers of complement union that say the same are the same

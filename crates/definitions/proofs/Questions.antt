@@ -13,23 +13,12 @@ use Rattle.definitions.specs.Lists.{all, distinct}
 use Rattle.definitions.specs.Word.{isCell}
 use Rattle.definitions.specs.Image.{header, columnCount, rowCount, isHeader, isColumn, columnWords, imageIds, cellWords, imageLength}
 use Rattle.definitions.specs.Questions.{ask, imageNumber}
+use Rattle.definitions.specs.Claims.{Passed}
 use Rattle.definitions.proofs.Bools.{and-l, and-r, and-i}
 
 ask-passed : (b : Bool) (number rest : ℕ) → ask b (suc number) rest ≡ 0 → (b ≡ true) × (rest ≡ 0)
 ask-passed true number rest e = (refl, e)
 ask-passed false number rest e = absurd (omega arith)
-
--- a yes to each of the questions 1 to 7, with at most `limit` rows
-pub record Passed (limit : ℕ) (image : List ℕ) : Type 0 where
-  pub first-word : 0 < length image
-  pub header-word : isHeader (header image) ≡ true
-  pub some-column : 1 ≤ columnCount image
-  pub few-columns : columnCount image ≤ maxColumns
-  pub few-rows : rowCount image ≤ limit
-  pub all-words : length image ≡ imageLength image
-  pub column-words : all isColumn (columnWords image) ≡ true
-  pub distinct-ids : distinct eqb (imageIds image) ≡ true
-  pub cell-words : all isCell (cellWords image) ≡ true
 
 pub passed-is : (limit : ℕ) (image : List ℕ) → (imageNumber limit image ≡ 0) ↔ Passed limit image
 unfolding imageNumber

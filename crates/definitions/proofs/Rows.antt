@@ -10,12 +10,10 @@ use borrow.Author.Tests.{eqb-true, eqb-false, eq-eqb, ne-eqb, not-true}
 use Rattle.definitions.specs.Word.{isFilled}
 use Rattle.definitions.specs.MinimumUnion.{covers}
 use Rattle.definitions.specs.ComplementUnion.{sameRow, agree, share}
+use Rattle.definitions.specs.Claims.{Filled, CellCovers, CellAgrees, Shared}
 use Rattle.definitions.proofs.Bools.{bool-cases, clash, and-l, and-r, and-i, or-cases, or-l, or-r}
 
 -- ---- cells
-
-abbrev pub Filled : ℕ → Type 0
-Filled w = w ≡ 0 → ⊥
 
 pub filled-cell : (w : ℕ) → isFilled w ≡ true → Filled w
 filled-cell w e = eqb-false w 0 (not-true (eqb w 0) e)
@@ -28,14 +26,6 @@ cell-filled w h = ap not (ne-eqb w 0 h)
 
 pub cell-empty : (w : ℕ) → w ≡ 0 → isFilled w ≡ false
 cell-empty w h = ap not (eq-eqb w 0 h)
-
--- x is what y is, where y is filled
-abbrev pub CellCovers : ℕ → ℕ → Type 0
-CellCovers x y = (y ≡ 0) ⊎ (x ≡ y)
-
--- "equal or one is empty"
-abbrev pub CellAgrees : ℕ → ℕ → Type 0
-CellAgrees x y = (x ≡ y) ⊎ ((x ≡ 0) ⊎ (y ≡ 0))
 
 -- ---- rows, column by column; a cell past the end of a row is empty
 
@@ -94,10 +84,6 @@ agree-of (x ∷ s) (y ∷ t) f =
 -- "(1) in each column they are equal or one is empty"
 pub agree-is : (s t : List ℕ) → (agree s t ≡ true) ↔ ((k : ℕ) → CellAgrees (getD s k 0) (getD t k 0))
 agree-is s t = (agree-at s t, agree-of s t)
-
--- a column that is filled in both with the same number
-abbrev pub Shared : List ℕ → List ℕ → Type 0
-Shared s t = (k : ℕ) × Filled (getD s k 0) × (getD s k 0 ≡ getD t k 0)
 
 pub share-at : (s t : List ℕ) → share s t ≡ true → Shared s t
 unfolding share

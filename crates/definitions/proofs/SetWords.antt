@@ -1,5 +1,5 @@
 -- The words of the set list: the record of each set stands in its place, its three words mark its positions bit by bit, and its row word
--- gives the place of its joined row. Assumes nothing.
+-- gives the position of its joined row. Assumes nothing.
 use mathlib.Core.Path.{_≡_, refl, sym, _∙_, ap}
 use mathlib.Core.Bool.{Bool, true, false, cond}
 use mathlib.Core.List.{List, [], _∷_, _++_, map, flatten}
@@ -49,7 +49,7 @@ module _ (t : List (List ℕ)) where
   unfolding setRecord
   row-word s = getD-at (marksFrom markWords (bits s)) (wordOf 1 (fusedPosition t s)) [] 0 markWords (marks-length markWords (bits s))
 
-  -- the joined row of a listed set stands in its place
+  -- the joined row of a listed set stands at its position
   module _ (s : List Bool) (h : Member s (unionSets t)) where
     pub fused-position-within : fusedPosition t s < length (fusedRows t)
     fused-position-within =
@@ -74,7 +74,7 @@ bit-high : (m : Bool) (x : ℕ) → (cond m 1 0 + 2 * x) / 2 ≡ x
 bit-high true x = omega arith
 bit-high false x = omega arith
 
--- bit k of a set's number marks position k
+-- bit k of a set says whether position k is in it
 pub bit-marks : (s : List Bool) (k : ℕ) → bits s / 2 ^ k % 2 ≡ cond (contains s k) 1 0
 unfolding bits contains
 bit-marks [] k = ap (λ (x : ℕ). x % 2) (zero-div (2 ^ k))

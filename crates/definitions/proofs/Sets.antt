@@ -13,28 +13,13 @@ use borrow.Author.Tests.{eqb-true, eqb-false, ne-eqb, not-true, not-false}
 use Rattle.definitions.specs.Lists.{allBelow}
 use Rattle.definitions.specs.ComplementUnion.{contains, compareSet, subsets, adjacentToAll, isComplementing, isMaximal, maximalSets}
 use Rattle.definitions.specs.Statements.{Member, StrictlyAscending}
+use Rattle.definitions.specs.Claims.{Holds, Complementing, Maximal}
 use Rattle.definitions.proofs.Bools.{bool-cases, clash, not-so, and-l, and-r, and-i, or-cases, or-l, or-r}
 use Rattle.definitions.proofs.Ascending.{member-split, member-join, determined}
 use Rattle.definitions.proofs.Orders.{sets, subsets-rise}
 use Rattle.definitions.proofs.Lists.{member-map, map-member, member-filter, filter-member, strict-filter, below-true, below-of, below-false}
 
--- the set holds the position k
-abbrev pub Holds : List Bool → ℕ → Type 0
-Holds s k = contains s k ≡ true
-
-module _ (adjacent : ℕ → ℕ → Bool) (n : ℕ) (s : List Bool) where
-  -- "a non-empty set of positions in which every two different rows complement each other"
-  pub record Complementing : Type 0 where
-    pub size : length s ≡ n
-    pub some : (k : ℕ) × Holds s k
-    pub pairwise : (j k : ℕ) → Holds s j → Holds s k → (j ≡ k → ⊥) → adjacent j k ≡ true
-
-  -- "It is maximal if no position outside complements all its members."
-  pub record Maximal : Type 0 where
-    pub complementing : Complementing
-    pub outside : (j : ℕ) → j < n → contains s j ≡ false → (k : ℕ) × Holds s k × (adjacent j k ≡ false)
-
--- ---- marks
+-- ---- positions of a set
 
 pub contains-get : (s : List Bool) (k : ℕ) → contains s k ≡ getD s k false
 unfolding contains

@@ -10,12 +10,9 @@ use lib.ListN.{length, getD}
 use borrow.Author.Tests.{eqb-true, ltb-true, ltb-false, lt-ltb, le-ltb, not-true}
 use Rattle.definitions.specs.Word.{isFilled}
 use Rattle.definitions.specs.MinimumUnion.{filled, covers, subsumes}
+use Rattle.definitions.specs.Claims.{empties, CellCovers}
 use Rattle.definitions.proofs.Bools.{bool-cases, clash, and-l, and-r, and-i, or-cases}
-use Rattle.definitions.proofs.Rows.{empty-cell, CellCovers, covers-at, covers-of}
-
-unfoldable pub empties : List ℕ → ℕ
-empties [] = 0
-empties (x ∷ s) = cond (isFilled x) 0 1 + empties s
+use Rattle.definitions.proofs.Rows.{empty-cell, covers-at, covers-of}
 
 pub filled-empties : (s : List ℕ) → filled s + empties s ≡ length s
 unfolding filled empties

@@ -26,12 +26,13 @@ use Rattle.definitions.specs.Program.{rowLines, setLines, unionText, min
 use Rattle.definitions.specs.Program.{maxBytes, wordsOf, lentTable, lentSets, answered, unionsText, readText, fuseText}
 use Rattle.definitions.specs.Program.{rowBytes, setBytes, maxText}
 use Rattle.definitions.specs.Statements.{Member}
+use Rattle.definitions.specs.Claims.{ComplementDone, empties}
 use Rattle.definitions.proofs.Bools.{bool-cases}
-use Rattle.definitions.proofs.Subsumption.{empties, filled-empties}
+use Rattle.definitions.proofs.Subsumption.{filled-empties}
 use Rattle.definitions.proofs.Minimum.{minimum-is}
 use Rattle.definitions.proofs.Counts.{flatten-length, fused-count, minimum-count, pairs-bound}
 use Rattle.definitions.proofs.Unions.{rows-even, fused-even}
-use Rattle.definitions.proofs.Outcomes.{ComplementDone, complement-done}
+use Rattle.definitions.proofs.Outcomes.{complement-done}
 use Rattle.definitions.proofs.Images.{accepted-rows}
 use Rattle.definitions.proofs.Reading.{listed-length, listed-position}
 use Rattle.definitions.proofs.TableWords.{small-ids}

@@ -14,6 +14,7 @@ use Rattle.definitions.specs.MinimumUnion.{minimumRows}
 use Rattle.definitions.specs.ComplementUnion.{complementAt, joined, unionSets, fusedRows}
 use Rattle.definitions.specs.Calls.{outerImage, minimumImage, fusedImage}
 use Rattle.definitions.specs.Statements.{Member, Orders, StrictlyAscending}
+use Rattle.definitions.specs.Claims.{WidenedOf, JoinedOf}
 use Rattle.definitions.proofs.Ascending.{member-split, member-join, is-strict, ascending-has, ascending-only, determined}
 use Rattle.definitions.proofs.Orders.{words, rows}
 use Rattle.definitions.proofs.Lists.{member-map, map-member}
@@ -61,11 +62,7 @@ module _ (a b : List ℕ) where
 
   -- ---- "T is the list of distinct rows, ascending"
 
-  -- a row of an image, with empty cells in the columns that its table lacks
-  abbrev pub WidenedOf : List ℕ → List ℕ → Type 0
-  WidenedOf image r = (row : List ℕ) × Member row (imageRows image) × (r ≡ widened (unionIds a b) (imageIds image) row)
-
-  widened-are : (image r : List ℕ) → Member r (widenedRows (unionIds a b) image) ↔ WidenedOf image r
+  widened-are : (image r : List ℕ) → Member r (widenedRows (unionIds a b) image) ↔ WidenedOf a b image r
   unfolding widenedRows
   widened-are image r = (
     map-member (widened (unionIds a b) (imageIds image)) r (imageRows image),
@@ -77,7 +74,7 @@ module _ (a b : List ℕ) where
   unfolding unionRows
   rows-rise = is-strict rows (widenedRows (unionIds a b) a ++ widenedRows (unionIds a b) b)
 
-  pub rows-are : (r : List ℕ) → Member r (unionRows a b) ↔ (WidenedOf a r ⊎ WidenedOf b r)
+  pub rows-are : (r : List ℕ) → Member r (unionRows a b) ↔ (WidenedOf a b a r ⊎ WidenedOf a b b r)
   unfolding unionRows
   rows-are r = (
     λ h. ⊎-elim (λ p. inl (widened-are a r .0 p)) (λ p. inr (widened-are b r .0 p)) (both-are rows (widenedRows (unionIds a b) a) (widenedRows (unionIds a b) b) r .0 h),
@@ -85,11 +82,11 @@ module _ (a b : List ℕ) where
         (⊎-elim (λ p. inl (widened-are a r .1 p)) (λ p. inr (widened-are b r .1 p)) h),
   )
 
-  pub rows-alone : (t : List (List ℕ)) → StrictlyAscending compareRow t → ((r : List ℕ) → Member r t ↔ (WidenedOf a r ⊎ WidenedOf b r)) → t ≡ unionRows a b
+  pub rows-alone : (t : List (List ℕ)) → StrictlyAscending compareRow t → ((r : List ℕ) → Member r t ↔ (WidenedOf a b a r ⊎ WidenedOf a b b r)) → t ≡ unionRows a b
   rows-alone t h f =
       determined rows t (unionRows a b) h rows-rise (λ r k. rows-are r .1 (f r .0 k)) (λ r k. f r .1 (rows-are r .0 k))
 
-  widened-length : (image r : List ℕ) → WidenedOf image r → length r ≡ length (unionIds a b)
+  widened-length : (image r : List ℕ) → WidenedOf a b image r → length r ≡ length (unionIds a b)
   unfolding widened
   widened-length image r i =
       ap (λ (l : List ℕ). length l) (i .2) ∙ length-map (unionIds a b) (cellIn (imageIds image) (i .0))
@@ -101,15 +98,11 @@ module _ (a b : List ℕ) where
 -- ---- "The fused table holds the distinct joined rows, ascending."
 
 module _ (t : List (List ℕ)) where
-  -- the joined row of a listed set
-  abbrev pub JoinedOf : List ℕ → Type 0
-  JoinedOf r = (s : List Bool) × Member s (unionSets t) × (r ≡ joined t s)
-
   pub fused-rise : StrictlyAscending compareRow (fusedRows t)
   unfolding fusedRows
   fused-rise = is-strict rows (map (joined t) (unionSets t))
 
-  pub fused-are : (r : List ℕ) → Member r (fusedRows t) ↔ JoinedOf r
+  pub fused-are : (r : List ℕ) → Member r (fusedRows t) ↔ JoinedOf t r
   unfolding fusedRows
   fused-are r = (
     λ h. map-member (joined t) r (unionSets t) (ascending-only rows r (map (joined t) (unionSets t)) h),
@@ -117,7 +110,7 @@ module _ (t : List (List ℕ)) where
         (subst (λ (x : List ℕ). Member x (map (joined t) (unionSets t))) (sym (i .2)) (member-map (joined t) (i .0) (unionSets t) (i .1))),
   )
 
-  pub fused-alone : (f : List (List ℕ)) → StrictlyAscending compareRow f → ((r : List ℕ) → Member r f ↔ JoinedOf r) → f ≡ fusedRows t
+  pub fused-alone : (f : List (List ℕ)) → StrictlyAscending compareRow f → ((r : List ℕ) → Member r f ↔ JoinedOf t r) → f ≡ fusedRows t
   fused-alone f h g =
       determined rows f (fusedRows t) h fused-rise (λ r k. fused-are r .1 (g r .0 k)) (λ r k. g r .1 (fused-are r .0 k))
 

@@ -13,6 +13,7 @@ pub mod Answer
 pub mod Calls
 pub mod Reading
 pub mod Statements
+pub mod Claims
 pub mod Demand3
 pub mod Promise
 pub mod CInterface

@@ -25,11 +25,12 @@ use Rattle.definitions.specs.Listing.{columnsLine, unionTitle, minimumTitle, se
 use Rattle.definitions.specs.Program.{rowLines, setLines, lentTable, lentSets, unionText, minimumText, setsText, fusedText, listing}
 use Rattle.definitions.specs.Program.{answered, unionsText}
 use Rattle.definitions.specs.Statements.{Member}
+use Rattle.definitions.specs.Claims.{ComplementDone}
 use Rattle.definitions.proofs.Lists.{map-ext}
 use Rattle.definitions.proofs.Minimum.{minimum-is}
 use Rattle.definitions.proofs.Counts.{fused-count, minimum-count, set-list-length}
 use Rattle.definitions.proofs.Unions.{rows-even, fused-even}
-use Rattle.definitions.proofs.Outcomes.{outer-done, minimum-done, ComplementDone, complement-done}
+use Rattle.definitions.proofs.Outcomes.{outer-done, minimum-done, complement-done}
 use Rattle.definitions.proofs.Images.{accepted-rows}
 use Rattle.definitions.proofs.Reading.{positions-read, position-read, records-read, listed-length, listed-position}
 use Rattle.definitions.proofs.TableWords.{small-ids, Table, ids-front, rows-front, table-front, table-words}

@@ -24,7 +24,7 @@ use Rattle.fusing.specs.Graph.{Seen, CrossingOf, Crossing}
 use Rattle.fusing.proofs.Words.{has-lacked}
 use Rattle.fusing.proofs.Apart.{bothIn, complement-filled}
 
--- ---- one row t, of number k, and the row s: i columns are passed
+-- ---- one row t, of index k, and the row s: i columns are passed
 
 pub record Passed (s t : List ℕ) (k i shared above within : ℕ) : Type 0 where
   pub shares : (has shared k || bothIn (drop i s) (drop i t)) ≡ bothIn s t

@@ -1,4 +1,4 @@
--- The rows of a column as groups of equal numbers: a leader sought among those of before, and each row joined to its group. Assumes nothing.
+-- The rows of a column as groups of equal cells: a leader sought among those of before, and each row joined to its group. Assumes nothing.
 use mathlib.Core.Path.{_≡_, refl, sym, _∙_, ap, ap₂, subst}
 use mathlib.Core.Bool.{Bool, true, false, _&&_, _||_}
 use mathlib.Core.Logic.{_⊎_, inl, inr, ⊎-elim}
@@ -141,7 +141,7 @@ module _ {cell : ℕ → ℕ} {filled rest : ℕ} {buckets leaders equal : List 
         let w : r ≡ getD (set leaders j r) i 0 = sym (ap (λ (k : ℕ). getD (set leaders j r) k 0) q ∙ getD-set-same leaders j r 0 space) in
         (subst (λ (k : ℕ). leads cell buckets' k ≡ true) w m, ap cell (sym w) ∙ e ∙ ap cell (sym q)))
 
-    -- no group has its number
+    -- no group has its cell
     module _ (r : ℕ) (leader : LeaderOf cell (cell j) (getD buckets digit 0) j r) (here : r ≡ j) (room : j < length equal) (size : length buckets ≡ bucketCount) where
       abbrev buckets' : List ℕ
       buckets' = set buckets digit (bitOr (getD buckets digit 0) ((1 * 2 ^ j) % 2 ^ wordBits))
@@ -226,7 +226,7 @@ module _ {cell : ℕ → ℕ} {filled rest : ℕ} {buckets leaders equal : List 
         led = led-more r buckets' (λ k m. bucket-still (cell k % bucketCount) k m) (ap (leads cell buckets') here ∙ bucket-own) (ap cell here);
       }
 
-    -- the group of r has its number
+    -- the group of r has its cell
     module _ (r : ℕ) (leader : LeaderOf cell (cell j) (getD buckets digit 0) j r) (d : r ≡ j → ⊥) (room : r < length equal) where
       abbrev grown : List ℕ
       grown = set equal r (bitOr (getD equal r 0) ((1 * 2 ^ j) % 2 ^ wordBits))

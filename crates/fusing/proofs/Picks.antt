@@ -17,9 +17,10 @@ use Rattle.definitions.specs.Image.{rowsIn}
 use Rattle.definitions.specs.ComplementUnion.{complementAt, members, joined, unionSets}
 use Rattle.definitions.specs.SetList.{bits}
 use Rattle.definitions.specs.Statements.{Member}
+use Rattle.definitions.specs.Claims.{Filled, CellAgrees, Holds, Complementing}
 use Rattle.definitions.proofs.Bools.{bool-cases, and-l, and-r}
-use Rattle.definitions.proofs.Rows.{Filled, CellAgrees, filled-cell, empty-cell, agree-at}
-use Rattle.definitions.proofs.Sets.{Holds, Complementing, holds-within, listed-is}
+use Rattle.definitions.proofs.Rows.{filled-cell, empty-cell, agree-at}
+use Rattle.definitions.proofs.Sets.{holds-within, listed-is}
 use Rattle.definitions.proofs.Joined.{members-are, members-agree, joined-some, joined-empty, joined-length}
 use Rattle.lists.proofs.Flat.{rows-length, rows-at, rows-wide}
 use Rattle.bitsets.specs.Bits.{wordBits, has, both, lowest}

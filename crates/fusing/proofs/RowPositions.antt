@@ -1,4 +1,4 @@
--- The positions of rows among the distinct ones: those that the numbers tell, what the search for one is asked and gives, and all of them one
+-- The positions of rows among the distinct ones: those that the indices tell, what the search for one is asked and gives, and all of them one
 -- after the other. Assumes nothing.
 use mathlib.Core.Path.{_≡_, refl, sym, _∙_, ap, subst}
 use mathlib.Core.List.{List, [], _++_}
@@ -27,7 +27,7 @@ use Rattle.fusing.specs.Positions.{positionsIn, Cleared, OwnPositions}
 use Rattle.fusing.proofs.Lists.{paste-rest}
 use Rattle.patterns.proofs.Parts.{part-is, part-length}
 
--- ---- the positions that the numbers tell
+-- ---- the positions that the indices tell
 
 pub cleared-none : (m : ℕ) (found : List ℕ) → Cleared m 0 found found
 cleared-none m found = record { size = refl; clear = λ i h. absurd (omega arith); rest = refl }
@@ -50,17 +50,17 @@ module _ (order : List ℕ) (m count : ℕ) where
   pub own-done : (found start positions : List ℕ) → Cleared m count found start → OwnPositions order m count start positions → OwnPositions order m count found positions
   own-done found start positions c p = record { size = p .size ∙ c .size; named = p .named; rest = p .rest ∙ c .rest }
 
-  pub number-small : (j : ℕ) → j < m → m ≤ length order → Below count (take m order) → getD order j 0 < count
-  number-small j h le below =
+  pub index-small : (j : ℕ) → j < m → m ≤ length order → Below count (take m order) → getD order j 0 < count
+  index-small j h le below =
       subst (λ (x : ℕ). x < count) (getD-take m order j 0 h) (below-at count (take m order) j below (omega (arith, length-take-le m order le)))
 
-  -- the number at j names its row
+  -- the index at j names its row
   pub own-turn : (found positions : List ℕ) (j : ℕ) → j < m → m ≤ length order → Below count (take m order) → count ≤ length found
       → OwnPositions order m count found positions → OwnPositions order m count found (set positions (getD order j 0) j)
   own-turn found positions j h le below room p =
       let size : length positions ≡ length found = p .size in
       let k = getD order j 0 in
-      let small : k < count = number-small j h le below in
+      let small : k < count = index-small j h le below in
       record {
         size = length-set positions k j ∙ size;
         named = λ i g some.
@@ -78,7 +78,7 @@ module _ (order : List ℕ) (m count : ℕ) where
 
 -- ---- all positions
 
--- the numbers l name the distinct rows among the n that stand in w
+-- the indices l name the distinct rows among the n that stand in w
 module _ (c n : ℕ) (w l : List ℕ) (fits : n * c ≤ length w) (o : Ordered c n w l) where
   abbrev pub allPositions : List ℕ
   allPositions = positionsIn (rowsAt c w l) (rowsIn c n w)
@@ -93,7 +93,7 @@ module _ (c n : ℕ) (w l : List ℕ) (fits : n * c ≤ length w) (o : Ordered c
       map-at (λ s. findIndex (sameRow s) (rowsAt c w l)) [] 0 (rowsIn c n w) i (omega (arith, rows-length c n w))
       ∙ ap (λ (s : List ℕ). findIndex (sameRow s) (rowsAt c w l)) (rows-at c n i w more)
 
-  -- the number of the row i stands at p
+  -- the index of the row i stands at p
   position-named : (i p : ℕ) → i < n → p < length l → getD l p 0 ≡ i → p ≡ getD allPositions i 0
   position-named i p more h e =
       let same : getD (rowsAt c w l) p (rowAt c w 0) ≡ rowAt c w i = List·getD-map (rowAt c w) l p 0 ∙ ap (rowAt c w) e in

@@ -1,4 +1,4 @@
--- The joined rows of sets that are numbers: bit k of a set marks row k.
+-- The joined rows of sets as bits: bit k of a set says whether row k is in it.
 use mathlib.Core.Bool.{cond}
 use mathlib.Core.List.{List, [], _∷_}
 use Prim.Native.Nat.{ℕ, suc, _+_, _*_}

@@ -1,11 +1,11 @@
--- `fill_own` meets its contract. The loop's invariant: each position written is that of the row's own number.
+-- `fill_own` meets its contract. The loop's invariant: each position written is that at which the row's own index stands.
 use borrow.Author.Needs.{needs}
 use mathlib.Core.Path.{_∙_}
 use Prim.Native.Nat.{_-_, _≤_, _<_}
 use native.Mathlib.Omega.{arith}
 use lib.ListN.{getD}
 use Rattle.fusing.specs.Positions.{OwnPositions}
-use Rattle.fusing.proofs.RowPositions.{own-none, own-turn, own-done, number-small}
+use Rattle.fusing.proofs.RowPositions.{own-none, own-turn, own-done, index-small}
 use Rattle.fusing.proofs.positions.fill_own.Statement.{statement}
 use Rattle.fusing.proofs.positions.fill_own.Tie as tie
 
@@ -15,14 +15,14 @@ Inv-loop order m count positions₀ j₀ positions j = (j ≤ m) × OwnPositions
 abbrev μ-loop : tie.MeasureT-loop
 μ-loop order m count positions₀ j₀ positions j = m - j
 
--- the number that is looked at is below count
-number : (c : tie.After-shared-slice-known2 Inv-loop μ-loop)
+-- the index that is looked at is below count
+index : (c : tie.After-shared-slice-known2 Inv-loop μ-loop)
     → getD (c .before .before .before .before .before .before .before .before .before .args .order .now) (c .before .before .loop .j) 0
     < c .before .before .before .before .before .before .before .before .before .args .count
-number c =
+index c =
     let s = c .before .before .before .before .before .before .before .before .before in
     let a = s .args in
-    number-small (a .order .now) (a .m) (a .count) (c .before .before .loop .j) (search needs) (s .pre .1) (s .pre .2)
+    index-small (a .order .now) (a .m) (a .count) (c .before .before .loop .j) (search needs) (s .pre .1) (s .pre .2)
 
 clear-positions-requires : tie.Need-clear-positions-requires Inv-loop μ-loop
 clear-positions-requires c κs = search needs
@@ -42,19 +42,19 @@ shared-slice-read-positions : tie.Need-shared-slice-read-positions Inv-loop μ-l
 shared-slice-read-positions c = search needs
 
 cast-positions-2 : tie.Need-cast-positions-2 Inv-loop μ-loop
-cast-positions-2 c = omega (arith, number c)
+cast-positions-2 c = omega (arith, index c)
 
 mul-positions-2 : tie.Need-mul-positions-2 Inv-loop μ-loop
 mul-positions-2 c =
     let l = c .before .before .loop in
     let e = c .before .before .before .before .before .clear-positions .ensures in
-    omega (arith, number c, l .inv .1 .size, e .size)
+    omega (arith, index c, l .inv .1 .size, e .size)
 
 slice-write-positions : tie.Need-slice-write-positions Inv-loop μ-loop
 slice-write-positions c =
     let l = c .before .before .loop in
     let e = c .before .before .before .before .before .clear-positions .ensures in
-    omega (arith, number c, l .inv .1 .size, e .size)
+    omega (arith, index c, l .inv .1 .size, e .size)
 
 add-j : tie.Need-add-j Inv-loop μ-loop
 add-j c = search needs

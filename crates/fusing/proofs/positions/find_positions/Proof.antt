@@ -1,4 +1,4 @@
--- `find_positions` meets its contract. The loop's invariant: the positions of the first k rows are written over those that the numbers tell.
+-- `find_positions` meets its contract. The loop's invariant: the positions of the first k rows are written over those that the indices tell.
 use borrow.Author.Needs.{needs}
 use mathlib.Core.Path.{_≡_, sym, _∙_}
 use mathlib.Core.List.{List}
@@ -15,7 +15,7 @@ use Rattle.fusing.proofs.RowPositions.{position-listed, position-member
 use Rattle.fusing.proofs.positions.find_positions.Statement.{statement}
 use Rattle.fusing.proofs.positions.find_positions.Tie as tie
 
--- the positions of all rows among those that the first m numbers name
+-- the positions of all rows among those that the first m indices name
 abbrev all-positions : ℕ → List ℕ → ℕ → List ℕ → ℕ → List ℕ
 all-positions width cells count order m = positionsIn (rowsAt width cells (take m order)) (rowsIn width count cells)
 
