@@ -55,7 +55,7 @@ fn put_answer(
         (unionsText (now (a .entry)) (now (b .entry))) (now (out .exit)) r ⌝ }
 {
     match answer {
-        ComplementAnswer::Refused { number, table: k } => refused_line(out, 0, number, k),
+        ComplementAnswer::Refused { number, table: k } => refused_line(number, k, out, 0),
         ComplementAnswer::Done {
             rows,
             words: _,
@@ -103,10 +103,10 @@ fn put_read(board: &[u8], plant: &[u8], out: &mut [u8]) -> usize
         (readText (now (board .entry)) (now (plant .entry))) (now (out .exit)) r ⌝ }
 {
     if board.len() % WORD_BYTES != 0 {
-        return ragged_line(out, 0, b"board.tbl");
+        return ragged_line(b"board.tbl", out, 0);
     }
     if plant.len() % WORD_BYTES != 0 {
-        return ragged_line(out, 0, b"plant.tbl");
+        return ragged_line(b"plant.tbl", out, 0);
     }
     let mut first = [0u32; WORDS];
     let mut second = [0u32; WORDS];

@@ -27,7 +27,7 @@ fn put_union(a: &[u32], b: &[u32], table: &mut [u32], out: &mut [u8], at: usize)
             rows,
             words: _,
             filled,
-        } => union_lines(out, at, table, rows, filled),
+        } => union_lines(table, rows, filled, out, at),
     }
 }
 
@@ -48,7 +48,7 @@ fn put_minimum(a: &[u32], b: &[u32], table: &mut [u32], out: &mut [u8], at: usiz
             words: _,
             filled,
             pairs,
-        } => minimum_lines(out, at, table, rows, filled, pairs),
+        } => minimum_lines(table, rows, filled, pairs, out, at),
     }
 }
 
@@ -71,6 +71,6 @@ pub(crate) fn put_listing(
 {
     let mut end = put_union(a, b, table, out, 0);
     end = put_minimum(a, b, table, out, end);
-    end = sets_lines(out, end, sets, count);
-    fused_lines(out, end, fused, rows, filled)
+    end = sets_lines(sets, count, out, end);
+    fused_lines(fused, rows, filled, out, end)
 }

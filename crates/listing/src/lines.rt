@@ -16,75 +16,75 @@ use text::put_text;
 use text::text_field;
 
 // A title line: a word and numbers.
-pub(crate) fn title_line(out: &mut [u8], at: usize, title: &[u8], numbers: &[usize]) -> usize
+pub(crate) fn title_line(title: &[u8], numbers: &[usize], out: &mut [u8], at: usize) -> usize
     requires { ⌜ Fits (now out) at (titleLine (now title) (now numbers)) ⌝ }
     ensures { λ r. ⌜ Written (now (out .entry)) at
         (titleLine (now (title .entry)) (now (numbers .entry))) (now (out .exit)) r ⌝ }
 {
-    let mut end = put_text(out, at, title);
+    let mut end = put_text(title, out, at);
     let mut i = 0;
     while i < numbers.len() {
-        end = next_number(out, end, numbers[i]);
+        end = next_number(numbers[i], out, end);
         i += 1;
     }
-    put_byte(out, end, NEWLINE)
+    put_byte(NEWLINE, out, end)
 }
 
 // A space, and then the id of a column word.
-fn next_id(out: &mut [u8], at: usize, column: u32) -> usize
+fn next_id(column: u32, out: &mut [u8], at: usize) -> usize
     requires { ⌜ at + 1 + length (idText column) ≤ length (now out) ⌝ }
     ensures { λ r. ⌜ Written (now (out .entry)) at (space ∷ idText column) (now (out .exit)) r ⌝ }
 {
-    next_number(out, at, words::id(column) as usize)
+    next_number(words::id(column) as usize, out, at)
 }
 
 // The columns' line: the ids of the column words.
-pub(crate) fn columns_line(out: &mut [u8], at: usize, columns: &[u32]) -> usize
+pub(crate) fn columns_line(columns: &[u32], out: &mut [u8], at: usize) -> usize
     requires { ⌜ Fits (now out) at (columnsLine (map idOf (now columns))) ⌝ }
     ensures { λ r. ⌜ Written (now (out .entry)) at
         (columnsLine (map idOf (now (columns .entry)))) (now (out .exit)) r ⌝ }
 {
-    let mut end = put_text(out, at, b"columns");
+    let mut end = put_text(b"columns", out, at);
     let mut i = 0;
     while i < columns.len() {
-        end = next_id(out, end, columns[i]);
+        end = next_id(columns[i], out, end);
         i += 1;
     }
-    put_byte(out, end, NEWLINE)
+    put_byte(NEWLINE, out, end)
 }
 
 // A row's line: its cells.
-pub(crate) fn row_line(out: &mut [u8], at: usize, cells: &[u32]) -> usize
+pub(crate) fn row_line(cells: &[u32], out: &mut [u8], at: usize) -> usize
     requires { ⌜ Fits (now out) at (rowLine (now cells)) ⌝ }
     ensures { λ r. ⌜ Written (now (out .entry)) at (rowLine (now (cells .entry))) (now (out .exit)) r ⌝ }
 {
     if cells.len() == 0 {
-        return put_byte(out, at, NEWLINE);
+        return put_byte(NEWLINE, out, at);
     }
-    let mut end = put_cell(out, at, cells[0]);
+    let mut end = put_cell(cells[0], out, at);
     let mut i = 1;
     while i < cells.len() {
-        end = next_cell(out, end, cells[i]);
+        end = next_cell(cells[i], out, end);
         i += 1;
     }
-    put_byte(out, end, NEWLINE)
+    put_byte(NEWLINE, out, end)
 }
 
 // The line of a file whose bytes make no whole number of words: `ragged`, and then its name as a title without numbers.
-pub fn ragged_line(out: &mut [u8], at: usize, name: &[u8]) -> usize
+pub fn ragged_line(name: &[u8], out: &mut [u8], at: usize) -> usize
     requires { ⌜ Fits (now out) at (raggedLine (now name)) ⌝ }
     ensures { λ r. ⌜ Written (now (out .entry)) at (raggedLine (now (name .entry))) (now (out .exit)) r ⌝ }
 {
-    let end = text_field(out, at, b"ragged");
-    title_line(out, end, name, &[])
+    let end = text_field(b"ragged", out, at);
+    title_line(name, &[], out, end)
 }
 
 // The line of a refusal: its number, and then the title `table` with its table.
-pub fn refused_line(out: &mut [u8], at: usize, number: u32, table: u32) -> usize
+pub fn refused_line(number: u32, table: u32, out: &mut [u8], at: usize) -> usize
     requires { ⌜ Fits (now out) at (refusedLine number table) ⌝ }
     ensures { λ r. ⌜ Written (now (out .entry)) at (refusedLine number table) (now (out .exit)) r ⌝ }
 {
-    let mut end = text_field(out, at, b"refused");
-    end = number_field(out, end, number as usize);
-    title_line(out, end, b"table", &[table as usize])
+    let mut end = text_field(b"refused", out, at);
+    end = number_field(number as usize, out, end);
+    title_line(b"table", &[table as usize], out, end)
 }

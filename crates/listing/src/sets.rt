@@ -20,18 +20,18 @@ const WORD_POSITIONS: usize = 30;
 const POSITIONS: usize = WORD_POSITIONS * MARK_WORDS;
 
 // The position and a space where its bit is 1, and nothing where it is 0.
-fn put_position(out: &mut [u8], at: usize, bit: u32, position: usize) -> usize
+fn put_position(bit: u32, position: usize, out: &mut [u8], at: usize) -> usize
     requires { ⌜ Fits (now out) at (positionText bit position) ⌝ }
     ensures { λ r. ⌜ Written (now (out .entry)) at (positionText bit position) (now (out .exit)) r ⌝ }
 {
     if bit != 1 {
         return at;
     }
-    number_field(out, at, position)
+    number_field(position, out, at)
 }
 
 // The positions that the mark words of a record hold, with a space behind each.
-fn put_positions(out: &mut [u8], at: usize, set: &[u32]) -> usize
+fn put_positions(set: &[u32], out: &mut [u8], at: usize) -> usize
     requires { ⌜ length (now set) ≡ setWidth ⌝ }
     requires { ⌜ Fits (now out) at (positionsText (recordPositions (now set))) ⌝ }
     ensures { λ r. ⌜ Written (now (out .entry)) at
@@ -41,25 +41,25 @@ fn put_positions(out: &mut [u8], at: usize, set: &[u32]) -> usize
     let mut p = 0;
     while p < POSITIONS {
         let bit = (set[p / WORD_POSITIONS] >> (p % WORD_POSITIONS)) & 1;
-        end = put_position(out, end, bit, p);
+        end = put_position(bit, p, out, end);
         p += 1;
     }
     end
 }
 
 // The positions of a set, and then the title `>` with the position of its joined row in the fused table.
-fn set_line(out: &mut [u8], at: usize, set: &[u32]) -> usize
+fn set_line(set: &[u32], out: &mut [u8], at: usize) -> usize
     requires { ⌜ length (now set) ≡ setWidth ⌝ }
     requires { ⌜ Fits (now out) at (recordLine (now set)) ⌝ }
     ensures { λ r. ⌜ Written (now (out .entry)) at (recordLine (now (set .entry))) (now (out .exit)) r ⌝ }
 {
-    let end = put_positions(out, at, set);
+    let end = put_positions(set, out, at);
     let position = low_bits(set[MARK_WORDS]) as usize;
-    title_line(out, end, b">", &[position])
+    title_line(b">", &[position], out, end)
 }
 
 // A line for each of `count` records.
-fn record_lines(out: &mut [u8], at: usize, records: &[u32], count: usize) -> usize
+fn record_lines(records: &[u32], count: usize, out: &mut [u8], at: usize) -> usize
     requires { ⌜ count * setWidth ≤ length (now records) ⌝ }
     requires { ⌜ Fits (now out) at (recordsLines (now records) count) ⌝ }
     ensures { λ r. ⌜ Written (now (out .entry)) at
@@ -70,7 +70,7 @@ fn record_lines(out: &mut [u8], at: usize, records: &[u32], count: usize) -> usi
     let mut i = 0;
     while i < count {
         let stop = start + SET_WIDTH;
-        end = set_line(out, end, &records[start..stop]);
+        end = set_line(&records[start..stop], out, end);
         start = stop;
         i += 1;
     }
@@ -78,12 +78,12 @@ fn record_lines(out: &mut [u8], at: usize, records: &[u32], count: usize) -> usi
 }
 
 // The title of the sets and a line for each record of a set list.
-pub fn sets_lines(out: &mut [u8], at: usize, list: &[u32], count: usize) -> usize
+pub fn sets_lines(list: &[u32], count: usize, out: &mut [u8], at: usize) -> usize
     requires { ⌜ 1 + count * setWidth ≤ length (now list) ⌝ }
     requires { ⌜ Fits (now out) at (setsTitle count ++ listLines (now list) count) ⌝ }
     ensures { λ r. ⌜ Written (now (out .entry)) at
         (setsTitle count ++ listLines (now (list .entry)) count) (now (out .exit)) r ⌝ }
 {
-    let end = title_line(out, at, b"sets", &[count]);
-    record_lines(out, end, &list[1..], count)
+    let end = title_line(b"sets", &[count], out, at);
+    record_lines(&list[1..], count, out, end)
 }

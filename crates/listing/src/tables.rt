@@ -12,7 +12,7 @@ use crate::lines::row_line;
 use crate::lines::title_line;
 
 // A line for each of `rows` rows of `columns` cells.
-fn row_lines(out: &mut [u8], at: usize, cells: &[u32], columns: usize, rows: usize) -> usize
+fn row_lines(cells: &[u32], columns: usize, rows: usize, out: &mut [u8], at: usize) -> usize
     requires { ⌜ rows * columns ≤ length (now cells) ⌝ }
     requires { ⌜ Fits (now out) at (rowLines (rowsIn columns rows (now cells))) ⌝ }
     ensures { λ r. ⌜ Written (now (out .entry)) at
@@ -23,7 +23,7 @@ fn row_lines(out: &mut [u8], at: usize, cells: &[u32], columns: usize, rows: usi
     let mut i = 0;
     while i < rows {
         let stop = start + columns;
-        end = row_line(out, end, &cells[start..stop]);
+        end = row_line(&cells[start..stop], out, end);
         start = stop;
         i += 1;
     }
@@ -32,12 +32,12 @@ fn row_lines(out: &mut [u8], at: usize, cells: &[u32], columns: usize, rows: usi
 
 // A title with its numbers, and the rows of the table in `image`.
 fn table_lines(
-    out: &mut [u8],
-    at: usize,
     title: &[u8],
     numbers: &[usize],
     image: &[u32],
     rows: usize,
+    out: &mut [u8],
+    at: usize,
 ) -> usize
     requires { ⌜ HasRows (now image) rows ⌝ }
     requires { ⌜ Fits (now out) at (titleLine (now title) (now numbers) ++ tableLines (now image) rows) ⌝ }
@@ -47,45 +47,45 @@ fn table_lines(
 {
     let columns = words::columns(image[0]) as usize;
     let start = 1 + columns;
-    let end = title_line(out, at, title, numbers);
-    row_lines(out, end, &image[start..], columns, rows)
+    let end = title_line(title, numbers, out, at);
+    row_lines(&image[start..], columns, rows, out, end)
 }
 
 // The columns, the title of T, and its rows.
-pub fn union_lines(out: &mut [u8], at: usize, image: &[u32], rows: usize, filled: usize) -> usize
+pub fn union_lines(image: &[u32], rows: usize, filled: usize, out: &mut [u8], at: usize) -> usize
     requires { ⌜ HasRows (now image) rows ⌝ }
     requires { ⌜ Fits (now out) at (unionLines (now image) rows filled) ⌝ }
     ensures { λ r. ⌜ Written (now (out .entry)) at
         (unionLines (now (image .entry)) rows filled) (now (out .exit)) r ⌝ }
 {
     let stop = 1 + words::columns(image[0]) as usize;
-    let end = columns_line(out, at, &image[1..stop]);
-    table_lines(out, end, b"union", &[rows, filled], image, rows)
+    let end = columns_line(&image[1..stop], out, at);
+    table_lines(b"union", &[rows, filled], image, rows, out, end)
 }
 
 // The title of the minimum union, with the pairs tried, and its rows.
 pub fn minimum_lines(
-    out: &mut [u8],
-    at: usize,
     image: &[u32],
     rows: usize,
     filled: usize,
     pairs: usize,
+    out: &mut [u8],
+    at: usize,
 ) -> usize
     requires { ⌜ HasRows (now image) rows ⌝ }
     requires { ⌜ Fits (now out) at (minimumTitle rows filled pairs ++ tableLines (now image) rows) ⌝ }
     ensures { λ r. ⌜ Written (now (out .entry)) at
         (minimumTitle rows filled pairs ++ tableLines (now (image .entry)) rows) (now (out .exit)) r ⌝ }
 {
-    table_lines(out, at, b"minimum", &[rows, filled, pairs], image, rows)
+    table_lines(b"minimum", &[rows, filled, pairs], image, rows, out, at)
 }
 
 // The title of the fused table and its rows.
-pub fn fused_lines(out: &mut [u8], at: usize, image: &[u32], rows: usize, filled: usize) -> usize
+pub fn fused_lines(image: &[u32], rows: usize, filled: usize, out: &mut [u8], at: usize) -> usize
     requires { ⌜ HasRows (now image) rows ⌝ }
     requires { ⌜ Fits (now out) at (fusedTitle rows filled ++ tableLines (now image) rows) ⌝ }
     ensures { λ r. ⌜ Written (now (out .entry)) at
         (fusedTitle rows filled ++ tableLines (now (image .entry)) rows) (now (out .exit)) r ⌝ }
 {
-    table_lines(out, at, b"fused", &[rows, filled], image, rows)
+    table_lines(b"fused", &[rows, filled], image, rows, out, at)
 }

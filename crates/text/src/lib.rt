@@ -15,7 +15,7 @@ pub const NEWLINE: u8 = b'\n';
 const DIGIT_ZERO: u8 = b'0';
 
 // One byte.
-pub fn put_byte(out: &mut [u8], at: usize, byte: u8) -> usize
+pub fn put_byte(byte: u8, out: &mut [u8], at: usize) -> usize
     requires { ⌜ at + 1 ≤ length (now out) ⌝ }
     ensures { λ r. ⌜ Written (now (out .entry)) at (byte ∷ []) (now (out .exit)) r ⌝ }
 {
@@ -24,7 +24,7 @@ pub fn put_byte(out: &mut [u8], at: usize, byte: u8) -> usize
 }
 
 // The bytes of `text`.
-pub fn put_text(out: &mut [u8], at: usize, text: &[u8]) -> usize
+pub fn put_text(text: &[u8], out: &mut [u8], at: usize) -> usize
     requires { ⌜ Fits (now out) at (now text) ⌝ }
     ensures { λ r. ⌜ Written (now (out .entry)) at (now (text .entry)) (now (out .exit)) r ⌝ }
 {
@@ -39,60 +39,60 @@ pub fn put_text(out: &mut [u8], at: usize, text: &[u8]) -> usize
 }
 
 // The decimal digits of `n`.
-pub fn put_number(out: &mut [u8], at: usize, n: usize) -> usize
+pub fn put_number(n: usize, out: &mut [u8], at: usize) -> usize
     requires { ⌜ Fits (now out) at (decimal n) ⌝ }
     ensures { λ r. ⌜ Written (now (out .entry)) at (decimal n) (now (out .exit)) r ⌝ }
 {
     if n < 10 {
-        return put_byte(out, at, DIGIT_ZERO + n as u8);
+        return put_byte(DIGIT_ZERO + n as u8, out, at);
     }
-    let last = put_number(out, at, n / 10);
-    put_byte(out, last, DIGIT_ZERO + (n % 10) as u8)
+    let last = put_number(n / 10, out, at);
+    put_byte(DIGIT_ZERO + (n % 10) as u8, out, last)
 }
 
 // The text of a cell: `-` for the empty cell, else its number.
-pub fn put_cell(out: &mut [u8], at: usize, cell: u32) -> usize
+pub fn put_cell(cell: u32, out: &mut [u8], at: usize) -> usize
     requires { ⌜ Fits (now out) at (cellText cell) ⌝ }
     ensures { λ r. ⌜ Written (now (out .entry)) at (cellText cell) (now (out .exit)) r ⌝ }
 {
     if cell == 0 {
-        return put_byte(out, at, b'-');
+        return put_byte(b'-', out, at);
     }
-    put_number(out, at, low_bits(cell) as usize)
+    put_number(low_bits(cell) as usize, out, at)
 }
 
 // The bytes of `text`, and then a space.
-pub fn text_field(out: &mut [u8], at: usize, text: &[u8]) -> usize
+pub fn text_field(text: &[u8], out: &mut [u8], at: usize) -> usize
     requires { ⌜ at + length (now text) + 1 ≤ length (now out) ⌝ }
     ensures { λ r. ⌜ Written (now (out .entry)) at (now (text .entry) ++ (space ∷ [])) (now (out .exit)) r ⌝ }
 {
-    let end = put_text(out, at, text);
-    put_byte(out, end, SPACE)
+    let end = put_text(text, out, at);
+    put_byte(SPACE, out, end)
 }
 
 // The decimal digits of `n`, and then a space.
-pub fn number_field(out: &mut [u8], at: usize, n: usize) -> usize
+pub fn number_field(n: usize, out: &mut [u8], at: usize) -> usize
     requires { ⌜ at + length (decimal n) + 1 ≤ length (now out) ⌝ }
     ensures { λ r. ⌜ Written (now (out .entry)) at (decimal n ++ (space ∷ [])) (now (out .exit)) r ⌝ }
 {
-    let end = put_number(out, at, n);
-    put_byte(out, end, SPACE)
+    let end = put_number(n, out, at);
+    put_byte(SPACE, out, end)
 }
 
 // A space, and then the decimal digits of `n`.
-pub fn next_number(out: &mut [u8], at: usize, n: usize) -> usize
+pub fn next_number(n: usize, out: &mut [u8], at: usize) -> usize
     requires { ⌜ at + 1 + length (decimal n) ≤ length (now out) ⌝ }
     ensures { λ r. ⌜ Written (now (out .entry)) at (space ∷ decimal n) (now (out .exit)) r ⌝ }
 {
-    let start = put_byte(out, at, SPACE);
-    put_number(out, start, n)
+    let start = put_byte(SPACE, out, at);
+    put_number(n, out, start)
 }
 
 // A space, and then the text of a cell.
-pub fn next_cell(out: &mut [u8], at: usize, cell: u32) -> usize
+pub fn next_cell(cell: u32, out: &mut [u8], at: usize) -> usize
     requires { ⌜ at + 1 + length (cellText cell) ≤ length (now out) ⌝ }
     ensures { λ r. ⌜ Written (now (out .entry)) at (space ∷ cellText cell) (now (out .exit)) r ⌝ }
 {
-    let start = put_byte(out, at, SPACE);
-    put_cell(out, start, cell)
+    let start = put_byte(SPACE, out, at);
+    put_cell(cell, out, start)
 }

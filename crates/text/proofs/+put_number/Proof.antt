@@ -15,7 +15,7 @@ use Rattle.text.proofs.+put_number.{statement}
 use Rattle.text.proofs.+put_number.Tie.{close}
 
 abbrev μ-put-number : Measures 1 put-number-kinds.ps ℕ
-μ-put-number κs a = a .1 .1 .0
+μ-put-number κs a = a .0
 
 abbrev put-number-at : ℕ → In 1 put-number-kinds.ps
 put-number-at t =
@@ -98,7 +98,7 @@ put-number-put-byte-requires-2 : (t : ℕ) → put-number-lts.Need-put-byte-requ
 put-number-put-byte-requires-2 t c κs =
     let called = c .before .before .before in
     let many = called .before .before .if1 .left in
-    omega (arith, last-length _ many, called .put-number .ensures .ends, called .put-number .kept .0)
+    omega (arith, last-length _ many, called .put-number .ensures .ends, called .put-number .kept .1 .0)
 
 put-number-same-length-2 : (t : ℕ) → put-number-lts.Need-same-length-2 (
   put-byte-reads.Asked,

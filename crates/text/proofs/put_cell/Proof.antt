@@ -28,15 +28,15 @@ cast-put-number c = search needs
 put-number-requires : tie.Need-put-number-requires
 put-number-requires c κs =
     let text = number-text _ (c .before .before .if1 .left) in
-    omega (arith, ap length text, ap (λ (n : ℕ). length (decimal n)) (c .low-bits .ensures))
+    omega (arith, ap length text, ap (λ (n : ℕ). length (decimal n)) (c .before .low-bits .ensures))
 
 same-length-2 : tie.Need-same-length-2
 same-length-2 c = search needs
 
 returns-2 : tie.Need-returns-2
 returns-2 c =
-    let k = c .before .before .before in
-    let e = ap decimal (k .low-bits .ensures) ∙ sym (number-text _ (k .before .before .if1 .left)) in
+    let k = c .before .before .before .before in
+    let e = ap decimal (k .low-bits .ensures) ∙ sym (number-text _ (k .before .if1 .left)) in
     as-written e (c .before .before .put-number .ensures)
 
 pub put-cell-spec : {M : Type 1} → statement M

@@ -8,10 +8,10 @@ use Rattle.text.proofs.put_text.Statement.{statement}
 use Rattle.text.proofs.put_text.Tie as tie
 
 abbrev Inv-loop : tie.InvT-loop
-Inv-loop out₀ at text end₀ i₀ out end i = Copied text out₀ at i out end
+Inv-loop text out₀ at end₀ i₀ out end i = Copied text out₀ at i out end
 
 abbrev μ-loop : tie.MeasureT-loop
-μ-loop out₀ at text end₀ i₀ out end i = length text - i
+μ-loop text out₀ at end₀ i₀ out end i = length text - i
 
 loop-holds : tie.Need-loop-holds Inv-loop μ-loop
 loop-holds c = copy-starts _ _ _ (omega arith)

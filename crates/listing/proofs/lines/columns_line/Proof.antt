@@ -13,10 +13,10 @@ use Rattle.listing.proofs.lines.columns_line.Statement.{statement}
 use Rattle.listing.proofs.lines.columns_line.Tie as tie
 
 abbrev Inv-loop : tie.InvT-loop
-Inv-loop out₀ at columns end₀ i₀ out end i = Fields idText columns (later (map idText columns)) out₀ end₀ i out end
+Inv-loop columns out₀ at end₀ i₀ out end i = Fields idText columns (later (map idText columns)) out₀ end₀ i out end
 
 abbrev μ-loop : tie.MeasureT-loop
-μ-loop out₀ at columns end₀ i₀ out end i = length columns - i
+μ-loop columns out₀ at end₀ i₀ out end i = length columns - i
 
 slice-aggregate-put-text : tie.Need-slice-aggregate-put-text Inv-loop μ-loop
 slice-aggregate-put-text c = search needs

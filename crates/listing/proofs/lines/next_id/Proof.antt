@@ -18,13 +18,13 @@ cast-next-number : tie.Need-cast-next-number
 cast-next-number c = search needs
 
 next-number-requires : tie.Need-next-number-requires
-next-number-requires c κs = omega (arith, ap (λ (n : ℕ). length (decimal n)) (c .id .ensures))
+next-number-requires c κs = omega (arith, ap (λ (n : ℕ). length (decimal n)) (c .before .id .ensures))
 
 same-length : tie.Need-same-length
 same-length c = search needs
 
 returns : tie.Need-returns
-returns c = as-written (ap (λ (n : ℕ). space ∷ decimal n) (c .before .before .before .id .ensures)) (c .before .before .next-number .ensures)
+returns c = as-written (ap (λ (n : ℕ). space ∷ decimal n) (c .before .before .before .before .id .ensures)) (c .before .before .next-number .ensures)
 
 pub next-id-spec : {M : Type 1} → statement M
 next-id-spec =

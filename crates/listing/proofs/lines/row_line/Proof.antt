@@ -13,10 +13,10 @@ use Rattle.listing.proofs.lines.row_line.Statement.{statement}
 use Rattle.listing.proofs.lines.row_line.Tie as tie
 
 abbrev Inv-loop : tie.InvT-loop
-Inv-loop out₀ at cells end₀ i₀ out end i = Fields cellText cells (later (map cellText (drop 1 cells))) out₀ end₀ i out end
+Inv-loop cells out₀ at end₀ i₀ out end i = Fields cellText cells (later (map cellText (drop 1 cells))) out₀ end₀ i out end
 
 abbrev μ-loop : tie.MeasureT-loop
-μ-loop out₀ at cells end₀ i₀ out end i = length cells - i
+μ-loop cells out₀ at end₀ i₀ out end i = length cells - i
 
 put-byte-requires : tie.Need-put-byte-requires Inv-loop μ-loop
 put-byte-requires c κs = omega (arith, ap length (no-fields cellText (c .before .before .before .before .args .cells .now) (c .before .if1 .taken)))

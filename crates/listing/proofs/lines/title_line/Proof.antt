@@ -13,10 +13,10 @@ use Rattle.listing.proofs.lines.title_line.Statement.{statement}
 use Rattle.listing.proofs.lines.title_line.Tie as tie
 
 abbrev Inv-loop : tie.InvT-loop
-Inv-loop out₀ at title numbers end₀ i₀ out end i = Fields decimal numbers (later (map decimal numbers)) out₀ end₀ i out end
+Inv-loop title numbers out₀ at end₀ i₀ out end i = Fields decimal numbers (later (map decimal numbers)) out₀ end₀ i out end
 
 abbrev μ-loop : tie.MeasureT-loop
-μ-loop out₀ at title numbers end₀ i₀ out end i = length numbers - i
+μ-loop title numbers out₀ at end₀ i₀ out end i = length numbers - i
 
 put-text-requires : tie.Need-put-text-requires Inv-loop μ-loop
 put-text-requires c κs = omega (arith, simp (line-first, length-append) at (c .before .before .before .before .pre))

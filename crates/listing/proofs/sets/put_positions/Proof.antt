@@ -11,10 +11,10 @@ use Rattle.listing.proofs.sets.put_positions.Statement.{statement}
 use Rattle.listing.proofs.sets.put_positions.Tie as tie
 
 abbrev Inv-loop : tie.InvT-loop
-Inv-loop out₀ at set end₀ p₀ out end p = PositionsWritten set out₀ at p out end
+Inv-loop set out₀ at end₀ p₀ out end p = PositionsWritten set out₀ at p out end
 
 abbrev μ-loop : tie.MeasureT-loop
-μ-loop out₀ at set end₀ p₀ out end p = wordMarks * markWords - p
+μ-loop set out₀ at end₀ p₀ out end p = wordMarks * markWords - p
 
 loop-holds : tie.Need-loop-holds Inv-loop μ-loop
 loop-holds c = positions-start _ _ _ (omega arith)

@@ -10,10 +10,10 @@ use Rattle.listing.proofs.sets.record_lines.Statement.{statement}
 use Rattle.listing.proofs.sets.record_lines.Tie as tie
 
 abbrev Inv-loop : tie.InvT-loop
-Inv-loop out₀ at records count end₀ start₀ i₀ out end start i = RowsWritten recordLine setWidth count records out₀ at i start out end
+Inv-loop records count out₀ at end₀ start₀ i₀ out end start i = RowsWritten recordLine setWidth count records out₀ at i start out end
 
 abbrev μ-loop : tie.MeasureT-loop
-μ-loop out₀ at records count end₀ start₀ i₀ out end start i = count - i
+μ-loop records count out₀ at end₀ start₀ i₀ out end start i = count - i
 
 loop-holds : tie.Need-loop-holds Inv-loop μ-loop
 loop-holds c = rows-start _ _ _ _ _ _ (omega arith) (omega arith)
@@ -31,7 +31,7 @@ part-set-line-start : tie.Need-part-set-line-start Inv-loop μ-loop
 part-set-line-start c = search needs
 
 part-set-line-end : tie.Need-part-set-line-end Inv-loop μ-loop
-part-set-line-end c = row-within (c .before .before .loop .inv) (omega arith)
+part-set-line-end c = row-within (c .before .loop .inv) (omega arith)
 
 set-line-requires : tie.Need-set-line-requires Inv-loop μ-loop
 set-line-requires c κs =

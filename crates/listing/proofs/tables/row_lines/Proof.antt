@@ -9,10 +9,10 @@ use Rattle.listing.proofs.tables.row_lines.Statement.{statement}
 use Rattle.listing.proofs.tables.row_lines.Tie as tie
 
 abbrev Inv-loop : tie.InvT-loop
-Inv-loop out₀ at cells columns rows end₀ start₀ i₀ out end start i = RowsWritten rowLine columns rows cells out₀ at i start out end
+Inv-loop cells columns rows out₀ at end₀ start₀ i₀ out end start i = RowsWritten rowLine columns rows cells out₀ at i start out end
 
 abbrev μ-loop : tie.MeasureT-loop
-μ-loop out₀ at cells columns rows end₀ start₀ i₀ out end start i = rows - i
+μ-loop cells columns rows out₀ at end₀ start₀ i₀ out end start i = rows - i
 
 loop-holds : tie.Need-loop-holds Inv-loop μ-loop
 loop-holds c = rows-start _ _ _ _ _ _ (omega arith) (omega arith)
@@ -21,7 +21,7 @@ add-stop : tie.Need-add-stop Inv-loop μ-loop
 add-stop c = omega (arith, row-within (c .before .loop .inv) (omega arith))
 
 mul-row-line : tie.Need-mul-row-line Inv-loop μ-loop
-mul-row-line c = omega (arith, row-within (c .before .before .loop .inv) (omega arith))
+mul-row-line c = omega (arith, row-within (c .before .loop .inv) (omega arith))
 
 sub-row-line : tie.Need-sub-row-line Inv-loop μ-loop
 sub-row-line c = search needs
@@ -30,7 +30,7 @@ part-row-line-start : tie.Need-part-row-line-start Inv-loop μ-loop
 part-row-line-start c = search needs
 
 part-row-line-end : tie.Need-part-row-line-end Inv-loop μ-loop
-part-row-line-end c = row-within (c .before .before .loop .inv) (omega arith)
+part-row-line-end c = row-within (c .before .loop .inv) (omega arith)
 
 row-line-requires : tie.Need-row-line-requires Inv-loop μ-loop
 row-line-requires c κs = row-line-fits (c .before .before .before .loop .inv) (omega arith)
