@@ -19,7 +19,7 @@ fn cell(row: usize, column: usize) -> u32 {
 fn cells(words: &mut [u32]) {
     let mut k: usize = 0;
     while k < 220 {
-        image::put(words, 12 + k, cell(k / 11, k % 11));
+        image::put(cell(k / 11, k % 11), words, 12 + k);
         k += 1;
     }
 }
@@ -27,7 +27,7 @@ fn cells(words: &mut [u32]) {
 // Writes the image; how many words it has.
 pub fn write(words: &mut [u32]) -> usize {
     image::read(b"0123456789:|", words);
-    image::put(words, 0, 0xc050_000b);
+    image::put(0xc050_000b, words, 0);
     cells(words);
     232
 }

@@ -40,16 +40,16 @@ use Rattle.fuse_body.specs.Parts.{IsDone, FusedAnswer, FusedWords}
 -- ---- a table at the front of a buffer
 
 -- its words hold these columns and these rows, n of them
-pub record Holds (ids : List ℕ) (rows : List (List ℕ)) (n : ℕ) (table : List ℕ) : Type 0 where
+pub record LinesOf (ids : List ℕ) (rows : List (List ℕ)) (n : ℕ) (table : List ℕ) : Type 0 where
   pub within : HasRows table n
   pub columns : imageIds table ≡ ids
   pub lines : tableLines table n ≡ rowLines rows
 
 holds : (ids : List ℕ) (rows : List (List ℕ)) (n : ℕ) (table rest : List ℕ) → Table ids rows → n ≡ length rows
-    → table ≡ imageOf ids rows ++ rest → Holds ids rows n table
+    → table ≡ imageOf ids rows ++ rest → LinesOf ids rows n table
 holds ids rows n table rest t e w =
-    subst (λ (k : ℕ). Holds ids rows k table) (sym e)
-    (subst (λ (x : List ℕ). Holds ids rows (length rows) x) (sym w)
+    subst (λ (k : ℕ). LinesOf ids rows k table) (sym e)
+    (subst (λ (x : List ℕ). LinesOf ids rows (length rows) x) (sym w)
     (record {
       within = table-front ids rows t rest;
       columns = ids-front ids rows t rest;

@@ -15,8 +15,8 @@ fn outer(n: usize, at: usize, word: u32, m: usize, second_at: usize, second_word
     let mut b = [0u32; 12];
     image::read(b"12| 34 5-", &mut a);
     image::read(b"32| 64 7-", &mut b);
-    image::put(&mut a, at, word);
-    image::put(&mut b, second_at, second_word);
+    image::put(word, &mut a, at);
+    image::put(second_word, &mut b, second_at);
     part(Call::Outer, &a, n, &b, m, 16, 0);
 }
 

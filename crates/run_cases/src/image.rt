@@ -1,14 +1,15 @@
 // Table images from a short text: the column ids, a bar, then the cells row by row. A byte stands for the number that it is above `0`,
 // a `-` for the empty cell; spaces are passed over.
 
-// Writes a word at a place that the list has.
-pub fn put(image: &mut [u32], at: usize, word: u32) {
+// Writes a word, if the list is long enough.
+pub fn put(word: u32, image: &mut [u32], at: usize) {
     if at < image.len() {
         image[at] = word;
     }
 }
 
-fn place(at: u32) -> usize {
+// A function of its own, so that what it takes is known to be a word.
+fn index(at: u32) -> usize {
     at as usize
 }
 
@@ -39,14 +40,14 @@ fn word(c: u8, columns: u32) -> u32 {
     0x4000_0000 | number(c)
 }
 
-// Writes the word of a byte at a place.
-fn put_byte(image: &mut [u32], at: u32, c: u8, columns: u32) {
+// Writes the word of a byte.
+fn put_byte(c: u8, columns: u32, image: &mut [u32], at: u32) {
     if is_word(c) {
-        put(image, place(at), word(c, columns));
+        put(word(c, columns), image, index(at));
     }
 }
 
-// The next place after a byte, within 1,000 words.
+// The next index after a byte, within 1,000 words.
 fn next(at: u32, c: u8) -> u32 {
     if is_word(c) {
         if at < 1000 {
@@ -66,7 +67,7 @@ fn columns_by(columns: u32, at: u32, c: u8) -> u32 {
     columns
 }
 
-// A header for an image that ends before a place.
+// A header for an image of so many words.
 fn header(end: u32, columns: u32) -> u32 {
     if columns == 0 {
         return 0xc000_0000;
@@ -85,11 +86,11 @@ pub fn read(text: &[u8], image: &mut [u32]) -> usize {
     let mut columns: u32 = 0;
     while i < text.len() {
         let c = text[i];
-        put_byte(image, at, c, columns);
+        put_byte(c, columns, image, at);
         columns = columns_by(columns, at, c);
         at = next(at, c);
         i += 1;
     }
-    put(image, 0, header(at, columns));
-    place(at)
+    put(header(at, columns), image, 0);
+    index(at)
 }

@@ -46,8 +46,8 @@ cells-spec =
     Inv-loop
     μ-loop
     loop-holds
-    add-put
     cell-requires
+    add-put
     put-requires
     add-k
     loop-less
