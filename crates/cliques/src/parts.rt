@@ -53,7 +53,7 @@ fn common_rows(neighbours: &[u64], part: u64) -> u64
 }
 
 // Puts rows into each set of the list.
-fn add_to_each(list: &mut [u64], rows: u64)
+fn add_to_each(rows: u64, list: &mut [u64])
     ensures { λ _. ⌜ now (list .exit) ≡ map (λ s. either s rows) (now (list .entry)) ⌝ }
 {
     let mut k = 0;
@@ -64,11 +64,11 @@ fn add_to_each(list: &mut [u64], rows: u64)
 }
 
 // Puts rows into the sets from one index to another.
-fn add_rows(list: &mut [u64], from: usize, to: usize, rows: u64)
+fn add_rows(rows: u64, list: &mut [u64], from: usize, to: usize)
     requires { ⌜ (from ≤ to) × (to ≤ length (now list)) ⌝ }
     ensures { λ _. ⌜ now (list .exit) ≡ changed from to (λ s. either s rows) (now (list .entry)) ⌝ }
 {
-    add_to_each(&mut list[from..to], rows);
+    add_to_each(rows, &mut list[from..to]);
 }
 
 // Lists the maximal sets of a part after the first count sets, and gives the grown count. The rows that are in all of them are left out of the
@@ -87,7 +87,7 @@ fn list_part(
     let common = common_rows(neighbours, part);
     let core = minus(part, common);
     let found = search(neighbours, 0, core, size(core), 0, list, count);
-    add_rows(list, count, found, common);
+    add_rows(common, list, count, found);
     found
 }
 

@@ -89,7 +89,7 @@ pub(crate) fn search(
         return count;
     }
     if undecided == 0 {
-        return append(list, count, set);
+        return append(set, list, count);
     }
     let i = lowest_row(rest);
     let later = without_lowest(rest);

@@ -11,10 +11,10 @@ pub(crate) fn put_words(words: &[u32; ANSWER_WORDS], answer: &mut [u32]) -> u32
 {
     let room = answer.len();
     if room < ANSWER_WORDS {
-        rows::write_words(answer, 0, words, room);
+        rows::write_words(words, room, answer, 0);
         return words[0];
     }
-    rows::write_words(answer, 0, words, ANSWER_WORDS);
+    rows::write_words(words, ANSWER_WORDS, answer, 0);
     words[0]
 }
 

@@ -48,7 +48,7 @@ pub fn write_image(
 {
     let start = 1 + n;
     write_head(ids, n, m, buffer);
-    rows::write_rows(buffer, start, cells, n, order, m);
+    rows::write_rows(cells, n, order, m, buffer, start);
     patterns::count_rows(&buffer[start..], m, n)
 }
 

@@ -8,7 +8,7 @@ ghost use Rattle.rows.specs.Indices.{rowsAt, Fit};
 use crate::compare::wide;
 
 // Writes the first n words over those of dst from `at`.
-pub fn write_words(dst: &mut [u32], at: usize, words: &[u32], n: usize)
+pub fn write_words(words: &[u32], n: usize, dst: &mut [u32], at: usize)
     requires { ⌜ (n ≤ length (now words)) × (at + n ≤ length (now dst)) ⌝ }
     ensures { λ r. ⌜ now (dst .exit) ≡ paste (now (dst .entry)) at (now (words .entry)) n ⌝ }
 {
@@ -20,7 +20,7 @@ pub fn write_words(dst: &mut [u32], at: usize, words: &[u32], n: usize)
 }
 
 // Writes the rows at the first m indices, one after the other, over the words of dst from `at`.
-pub fn write_rows(dst: &mut [u32], at: usize, cells: &[u32], width: usize, order: &[u32], m: usize)
+pub fn write_rows(cells: &[u32], width: usize, order: &[u32], m: usize, dst: &mut [u32], at: usize)
     requires { ⌜ (m ≤ length (now order)) × Fit width (length (now cells)) (take m (now order))
         × (at + m * width ≤ length (now dst)) ⌝ }
     ensures { λ r. ⌜ now (dst .exit) ≡ paste (now (dst .entry)) at
@@ -31,7 +31,7 @@ pub fn write_rows(dst: &mut [u32], at: usize, cells: &[u32], width: usize, order
     while k < m {
         let from = wide(order[k]) * width;
         let end = from + width;
-        write_words(dst, to, &cells[from..end], width);
+        write_words(&cells[from..end], width, dst, to);
         to += width;
         k += 1;
     }

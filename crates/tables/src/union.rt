@@ -32,7 +32,7 @@ fn order_cells(wide: &[u32], width: usize, n: usize, cells: &mut [u32]) -> usize
     let mut order = [0u32; Table::MAX_ROWS];
     let mut spare = [0u32; Table::MAX_ROWS];
     let m = rows::order_rows(wide, width, n, &mut order, &mut spare);
-    rows::write_rows(cells, 0, wide, width, &order, m);
+    rows::write_rows(wide, width, &order, m, cells, 0);
     m
 }
 

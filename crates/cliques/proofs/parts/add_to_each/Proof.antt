@@ -8,10 +8,10 @@ use Rattle.cliques.proofs.parts.add_to_each.Statement.{statement}
 use Rattle.cliques.proofs.parts.add_to_each.Tie as tie
 
 abbrev Inv-loop : tie.InvT-loop
-Inv-loop list₀ rows k₀ list k = (k ≤ length list₀) × Mapped (λ s. either s rows) list₀ list k
+Inv-loop rows list₀ k₀ list k = (k ≤ length list₀) × Mapped (λ s. either s rows) list₀ list k
 
 abbrev μ-loop : tie.MeasureT-loop
-μ-loop list₀ rows k₀ list k = length list₀ - k
+μ-loop rows list₀ k₀ list k = length list₀ - k
 
 loop-holds : tie.Need-loop-holds Inv-loop μ-loop
 loop-holds c = (search needs, mapped-none (λ s. either s (c .before .args .rows)) (c .before .args .list .now))

@@ -63,7 +63,7 @@ returns c =
     let q = start f in
     let list = f .search .last .1 .1 .1 .1 .1 .0 in (
       f .search .ensures .0,
-      c .add-rows .kept .0 ∙ f .search .ensures .1,
+      c .add-rows .kept .1 .0 ∙ f .search .ensures .1,
       subst (λ (x : List ℕ). Searched (rowOf (q .args .neighbours .now)) (suc maxSets) wordBits (q .args .part) (take (q .args .count) (q .args .list .now)) (take (f .search .result) x))
           (sym (c .add-rows .ensures))
           (part-searched (suc maxSets) (q .pre .0) (k .common-rows .result) (m .minus .result) (k .common-rows .ensures) (m .minus .ensures) (z .size .result) (z .size .ensures)

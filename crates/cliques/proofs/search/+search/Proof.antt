@@ -106,7 +106,7 @@ module _ (t : ℕ) where
       let r = q .pre .1 in
       let few : s .count < suc maxSets = omega (arith, o .before .if1 .left) in (
         omega (arith, c .append .ensures .0),
-        c .append .kept .0,
+        c .append .kept .1 .0,
         run-lists (rowOf (s .neighbours .now)) (suc maxSets) (s .decided) (s .rest) (s .set) (s .count) (s .list .now)
             (omega (arith, r .room, r .few)) (s .undecided) (o .if2 .taken) few _ (c .append .ensures .1),
       )

@@ -19,11 +19,11 @@ abbrev words : ℕ → List ℕ → ℕ → List ℕ → List ℕ
 words width cells m order = flatten (rowsAt width cells (take m order))
 
 abbrev Inv-loop : tie.InvT-loop
-Inv-loop dst₀ at cells width order m k₀ to₀ dst k to =
+Inv-loop cells width order m dst₀ at k₀ to₀ dst k to =
     (k ≤ m) × (to ≡ at + k * width) × Pasted dst₀ at (words width cells m order) (k * width) dst
 
 abbrev μ-loop : tie.MeasureT-loop
-μ-loop dst₀ at cells width order m k₀ to₀ dst k to = m - k
+μ-loop cells width order m dst₀ at k₀ to₀ dst k to = m - k
 
 loop-holds : tie.Need-loop-holds Inv-loop μ-loop
 loop-holds c =
@@ -66,7 +66,7 @@ add-end : tie.Need-add-end Inv-loop μ-loop
 add-end c = omega (arith, row-in c)
 
 mul-write-words : tie.Need-mul-write-words Inv-loop μ-loop
-mul-write-words c = omega (arith, row-in (c .before))
+mul-write-words c = omega (arith, row-in c)
 
 sub-write-words : tie.Need-sub-write-words Inv-loop μ-loop
 sub-write-words c = search needs
@@ -75,7 +75,7 @@ part-write-words-start : tie.Need-part-write-words-start Inv-loop μ-loop
 part-write-words-start c = search needs
 
 part-write-words-end : tie.Need-part-write-words-end Inv-loop μ-loop
-part-write-words-end c = omega (arith, row-in (c .before))
+part-write-words-end c = omega (arith, row-in c)
 
 write-words-requires : tie.Need-write-words-requires Inv-loop μ-loop
 write-words-requires c κs =

@@ -9,10 +9,10 @@ use Rattle.rows.proofs.write.write_words.Statement.{statement}
 use Rattle.rows.proofs.write.write_words.Tie as tie
 
 abbrev Inv-loop : tie.InvT-loop
-Inv-loop dst₀ at words n i₀ dst i = (i ≤ n) × Pasted dst₀ at words i dst
+Inv-loop words n dst₀ at i₀ dst i = (i ≤ n) × Pasted dst₀ at words i dst
 
 abbrev μ-loop : tie.MeasureT-loop
-μ-loop dst₀ at words n i₀ dst i = n - i
+μ-loop words n dst₀ at i₀ dst i = n - i
 
 loop-holds : tie.Need-loop-holds Inv-loop μ-loop
 loop-holds c = (search needs, paste-none (c .args .dst .now) (c .args .at) (c .args .words .now))
