@@ -4,10 +4,9 @@ mod candidates;
 mod counts;
 mod trial;
 
-ghost use Prim.Native.Nat.{_*_, _≤_};
+ghost use Prim.Native.Nat.{_≤_};
 ghost use lib.ListN.{length};
-ghost use Rattle.definitions.specs.Limits.{maxColumns, maxUnionRows};
-ghost use Rattle.minimum.specs.Trying.{KeptRows};
+ghost use Rattle.minimum.specs.Trying.{Untried, KeptRows};
 ghost use Rattle.minimum.specs.Candidates.{Prepared};
 use counts::fill_counts;
 use counts::fill_fuller;
@@ -53,8 +52,7 @@ fn keep_rows(
 
 // Writes the indices of those of the first n rows that none of these subsumes, ascending.
 pub fn minimum_rows(cells: &[u32], n: usize, width: usize, kept: &mut [u32]) -> Kept
-    requires { ⌜ (n ≤ maxUnionRows) × (width ≤ maxColumns) × (n * width ≤ length (now cells))
-        × (n ≤ length (now kept)) ⌝ }
+    requires { ⌜ Untried width n (now cells) (now kept) ⌝ }
     ensures { λ r. ⌜ KeptRows width n (now (cells .entry)) (now (kept .exit)) (r .rows) (r .pairs) ⌝ }
 {
     let mut counts = [0u32; Table::MAX_ROWS];

@@ -29,7 +29,7 @@ module _ (c : tie.After-counts2) where
   counts-small : (j : ℕ) → getD counts j 0 < suc maxColumns
   counts-small =
       let s = start .args in
-      count-small (s .width) (s .n) (s .cells .now) counts (c .before .fill-counts .ensures) (start .pre .1)
+      count-small (s .width) (s .n) (s .cells .now) counts (c .before .fill-counts .ensures) (start .pre .few-columns)
 
 slice-aggregate-fill-counts : tie.Need-slice-aggregate-fill-counts
 slice-aggregate-fill-counts c = search needs
@@ -49,7 +49,7 @@ slice-aggregate-fill-fuller c = search needs
 fill-fuller-requires : tie.Need-fill-fuller-requires
 fill-fuller-requires c κs =
     let q = c .before .before in
-    ((omega (arith, counts-long q, in-word (start q .pre .0)), counts-small q), empty-cells (suc maxColumns))
+    ((omega (arith, counts-long q, in-word (start q .pre .few-rows)), counts-small q), empty-cells (suc maxColumns))
 
 slice-aggregate-fill-columns : tie.Need-slice-aggregate-fill-columns
 slice-aggregate-fill-columns c = search needs
@@ -57,7 +57,7 @@ slice-aggregate-fill-columns c = search needs
 fill-columns-requires : tie.Need-fill-columns-requires
 fill-columns-requires c κs =
     let q = c .before .before .before .before .before .before .before .before .before .before in
-    (in-word (q .pre .0), q .pre .2, columns-none (q .args .width) (q .pre .1))
+    (in-word (q .pre .few-rows), q .pre .fits, columns-none (q .args .width) (q .pre .few-columns))
 
 slice-aggregate-keep-rows : tie.Need-slice-aggregate-keep-rows
 slice-aggregate-keep-rows c = search needs
@@ -74,8 +74,8 @@ keep-rows-requires c κs =
     let s = q .args in
     let n = counts-long k in (
       record {
-        few = rw n (q .pre .0);
-        fits = rw n (q .pre .2);
+        few = rw n (q .pre .few-rows);
+        fits = rw n (q .pre .fits);
         counted = rw n (k .before .fill-counts .ensures);
         room = λ j. omega (arith, counts-small k j, u .fill-fuller .kept .1 .0);
         fuller-rows = u .fill-fuller .ensures;

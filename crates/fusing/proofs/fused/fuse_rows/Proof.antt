@@ -15,7 +15,12 @@ order-rows-requires c κs =
     let j = c .before .before .before .before in
     let s = j .before .before .before .before .before .before .before .before .before in
     let room = s .pre .1 in
-    (omega (arith, s .pre .0 .1 .few), room .indices, room .positions-too, omega (arith, room .rows, j .joined .given))
+    record {
+      named = omega (arith, s .pre .0 .1 .few);
+      order-room = room .indices;
+      spare-room = room .positions-too;
+      cells = omega (arith, room .rows, j .joined .given);
+    }
 
 find-positions-requires : tie.Need-find-positions-requires
 find-positions-requires c κs =

@@ -46,7 +46,7 @@ minimum-rows-requires : tie.Need-minimum-rows-requires
 minimum-rows-requires c κs =
     let h = held c in
     let r = h .few-rows in
-    (r, h .few-columns, cells-there h, omega arith)
+    record { few-columns = h .few-columns; few-rows = r; fits = cells-there h; room = omega arith }
 
 -- ---- the indices of the rows left name the minimum union
 

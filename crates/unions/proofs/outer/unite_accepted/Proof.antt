@@ -46,7 +46,7 @@ slice-aggregate-order-rows-2 c = search needs
 order-rows-requires : tie.Need-order-rows-requires
 order-rows-requires c κs =
     let r = held c .few-rows in
-    (omega arith, omega arith, omega arith, cells-there (held c))
+    record { named = omega arith; order-room = omega arith; spare-room = omega arith; cells = omega (arith, cells-there (held c)) }
 
 -- ---- the indices of its rows name T
 
