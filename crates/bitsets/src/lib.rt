@@ -7,6 +7,9 @@ ghost use Rattle.bitsets.specs.Bits.{has, both, either, isSub, butNot, w
 // The positions that a word holds.
 pub const WORD_BITS: usize = 64;
 
+// The word that holds every position.
+pub const ALL_ROWS: u64 = 18446744073709551615;
+
 // Is row k in the set?
 pub fn has_row(set: u64, k: usize) -> bool
     requires { ⌜ k < wordBits ⌝ }

@@ -27,7 +27,7 @@ fn is_mirrored(neighbours: &[u64], n: usize, j: usize) -> bool
 }
 
 // Are the n rows a graph?
-pub fn is_graph(neighbours: &[u64], n: usize) -> bool
+pub(crate) fn is_graph(neighbours: &[u64], n: usize) -> bool
     requires { ⌜ (n ≤ length (now neighbours)) × (n ≤ wordBits) ⌝ }
     ensures { λ r. ⌜ (r ≡ true → Graph (now (neighbours .entry)) n) ⌝ }
 {

@@ -5,7 +5,7 @@ ghost use Rattle.bitsets.specs.Bits.{wordBits};
 use bitsets::with_row;
 use definitions::MAX_ROWS;
 
-pub enum Shape {
+pub(crate) enum Shape {
     // No two rows complement each other.
     Apart,
     // Every two rows do.
@@ -103,7 +103,7 @@ fn word(shape: Shape, n: usize, j: usize) -> u64
 }
 
 // Writes the graph of n rows.
-pub fn build(shape: Shape, n: usize, neighbours: &mut [u64])
+pub(crate) fn build(shape: Shape, n: usize, neighbours: &mut [u64])
     requires { ⌜ (n ≤ length (now neighbours)) × (n ≤ wordBits) ⌝ }
 {
     let mut j: usize = 0;

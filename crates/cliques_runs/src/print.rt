@@ -27,7 +27,7 @@ fn set(w: u64) {
 }
 
 // The first count sets of a list.
-pub fn sets(list: &[u64], count: usize)
+pub(crate) fn sets(list: &[u64], count: usize)
     requires { ⌜ count ≤ length (now list) ⌝ }
 {
     let mut k: usize = 0;

@@ -25,7 +25,7 @@ fn cells(words: &mut [u32]) {
 }
 
 // Writes the image; how many words it has.
-pub fn write(words: &mut [u32]) -> usize {
+pub(crate) fn write(words: &mut [u32]) -> usize {
     image::read(b"0123456789:|", words);
     image::put(0xc050_000b, words, 0);
     cells(words);

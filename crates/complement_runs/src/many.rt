@@ -15,14 +15,14 @@ fn complement(name: &[u8], second: &[u8], room: usize, set_room: usize) {
     part(Call::Complement, &a, n, &b, m, room, set_room);
 }
 
-pub fn at_limit() {
+pub(crate) fn at_limit() {
     complement(b"1,024 sets", b"0|", 11280, 4100);
     complement(b"1,024 sets, buffers exact", b"0|", 11276, 4097);
     complement(b"1,024 sets, table one short", b"0|", 11275, 4097);
     complement(b"1,024 sets, sets one short", b"0|", 11276, 4096);
 }
 
-pub fn above_limit() {
+pub(crate) fn above_limit() {
     complement(b"1,025 sets", b"0| 2", 12000, 12000);
     complement(b"1,025 sets, no room", b"0| 2", 0, 0);
 }

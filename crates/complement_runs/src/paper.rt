@@ -6,7 +6,7 @@ fn complement(name: &[u8], first: &[u8], second: &[u8], room: usize, set_room: u
     case(Call::Complement, name, first, second, room, set_room);
 }
 
-pub fn few() {
+pub(crate) fn few() {
     complement(b"complement of no rows", b"12|", b"23|", 8, 8);
     complement(b"complement of one empty row", b"12| --", b"12|", 8, 8);
     complement(

@@ -9,19 +9,19 @@ fn complement(name: &[u8], room: usize, set_room: usize) {
     case(Call::Complement, name, board, plant, room, set_room);
 }
 
-pub fn enough() {
+pub(crate) fn enough() {
     complement(b"complement of board and plant", 20, 16);
     complement(b"complement, buffers exact", 17, 13);
 }
 
-pub fn short() {
+pub(crate) fn short() {
     complement(b"complement, table one short", 16, 13);
     complement(b"complement, sets one short", 17, 12);
     complement(b"complement, both one short", 16, 12);
 }
 
 // 17 columns are refused before any room is asked for.
-pub fn none() {
+pub(crate) fn none() {
     case(
         Call::Complement,
         b"complement of 17 columns",

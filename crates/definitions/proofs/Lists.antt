@@ -13,7 +13,7 @@ use borrow.Author.Tests.{not-true}
 use Rattle.definitions.specs.declared.Order.{Order}
 use Rattle.definitions.specs.declared.Order.the-variants.{Before}
 use Rattle.definitions.specs.Lists.{all, any, filter, findIndex, distinct, allBelow, sumBelow}
-use Rattle.definitions.specs.Statements.{Member, Orders, Above, StrictlyAscending}
+use Rattle.definitions.specs.Statements.{Member, Orders, BeforeAll, StrictlyAscending}
 use Rattle.definitions.proofs.Bools.{bool-cases, clash, not-so, and-l, and-r, and-i, or-cases, or-l, or-r}
 use Rattle.definitions.proofs.Ascending.{not-before-self, strict-get}
 
@@ -147,7 +147,7 @@ module _ {A : Type 0} (p : A → Bool) where
   filter-all (x ∷ l) f = rw (f x (inl refl)) (ap (λ (r : List A). x ∷ r) (filter-all l (λ y h. f y (inr h))))
 
   module _ (compare : A → A → Order) where
-    pub above-filter : (a : A) (l : List A) → Above compare a l → Above compare a (filter p l)
+    pub above-filter : (a : A) (l : List A) → BeforeAll compare a l → BeforeAll compare a (filter p l)
     unfolding filter
     above-filter a [] h = tt
     above-filter a (x ∷ l) h =

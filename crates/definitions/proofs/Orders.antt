@@ -10,7 +10,7 @@ use Rattle.definitions.specs.declared.Order.{Order}
 use Rattle.definitions.specs.declared.Order.the-variants.{Before, Same, After}
 use Rattle.definitions.specs.OuterUnion.{compareWord, thenBy, compareRow}
 use Rattle.definitions.specs.ComplementUnion.{compareSet, subsets}
-use Rattle.definitions.specs.Statements.{Orders, Above, StrictlyAscending}
+use Rattle.definitions.specs.Statements.{Orders, BeforeAll, StrictlyAscending}
 use Rattle.definitions.proofs.Ascending.{above-append}
 
 -- two different cases of an order
@@ -176,7 +176,7 @@ sets = record { same = set-same; self = set-self; flip = set-flip; trans = set-t
 
 -- ---- all sets, in set order
 
-above-map : (m : Bool) (s : List Bool) (l : List (List Bool)) → Above compareSet s l → Above compareSet (m ∷ s) (map (λ t. m ∷ t) l)
+above-map : (m : Bool) (s : List Bool) (l : List (List Bool)) → BeforeAll compareSet s l → BeforeAll compareSet (m ∷ s) (map (λ t. m ∷ t) l)
 unfolding compareSet
 above-map m s [] h = tt
 above-map true s (t ∷ l) h = (h .0, above-map true s l (h .1))
@@ -186,7 +186,7 @@ strict-map : (m : Bool) (l : List (List Bool)) → StrictlyAscending compareSet 
 strict-map m [] h = tt
 strict-map m (s ∷ l) h = (above-map m s l (h .0), strict-map m l (h .1))
 
-above-other : (s : List Bool) (l : List (List Bool)) → Above compareSet (true ∷ s) (map (λ t. false ∷ t) l)
+above-other : (s : List Bool) (l : List (List Bool)) → BeforeAll compareSet (true ∷ s) (map (λ t. false ∷ t) l)
 unfolding compareSet
 above-other s [] = tt
 above-other s (t ∷ l) = (refl, above-other s l)

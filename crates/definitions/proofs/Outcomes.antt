@@ -17,7 +17,7 @@ use Rattle.definitions.specs.SetList.{setList}
 use Rattle.definitions.specs.Questions.{imageNumber}
 use Rattle.definitions.specs.Answer.{Outcome, done, refused, unless, no}
 use Rattle.definitions.specs.Claims.{TableDone, ComplementDone}
-use Rattle.definitions.specs.Calls.{Accepted, pairNumber, tableRoom, outerImage, minimumImage, fusedImage, outerOutcome, minimumOutcome, complementOutcome}
+use Rattle.definitions.specs.Calls.{Accepted, pairOutcome, tableRoom, outerImage, minimumImage, fusedImage, outerOutcome, minimumOutcome, complementOutcome}
 
 unless-done : (number table : ℕ) (rest : Outcome) (values : List ℕ) → unless number table rest ≡ done values → (number ≡ 0) × (rest ≡ done values)
 unless-done zero table rest values e = (refl, e)
@@ -49,15 +49,15 @@ pub asked-yes : (x y number : ℕ) (rest : Outcome) → x ≤ y → rest ≡ unl
 asked-yes x y number rest h = sym (unless-passed (no (leb x y) number) 2 rest (within-passed x y number h))
 
 -- an accepted pair goes on to the next question
-pub accepted-on : (a b : List ℕ) (rest : Outcome) → Accepted a b → pairNumber a b rest ≡ rest
-unfolding pairNumber
+pub accepted-on : (a b : List ℕ) (rest : Outcome) → Accepted a b → pairOutcome a b rest ≡ rest
+unfolding pairOutcome
 accepted-on a b rest c =
     unless-passed (imageNumber maxRows a) 0 _ (c .first)
     ∙ unless-passed (imageNumber maxRows b) 1 _ (c .second)
     ∙ unless-passed (no (leb (length (unionIds a b)) maxColumns) 8) 2 rest (within-passed (length (unionIds a b)) maxColumns 8 (c .columns))
 
-pub accepted-done : (a b : List ℕ) (rest : Outcome) (values : List ℕ) → pairNumber a b rest ≡ done values → Accepted a b × (rest ≡ done values)
-unfolding pairNumber
+pub accepted-done : (a b : List ℕ) (rest : Outcome) (values : List ℕ) → pairOutcome a b rest ≡ done values → Accepted a b × (rest ≡ done values)
+unfolding pairOutcome
 accepted-done a b rest values e =
     let p = unless-done (imageNumber maxRows a) 0 _ values e in
     let q = unless-done (imageNumber maxRows b) 1 _ values (p .1) in
@@ -69,7 +69,7 @@ accepted-done a b rest values e =
 same-values : (counts values : List ℕ) → done counts ≡ done values → values ≡ counts
 same-values counts values e = cc
 
-table-done : (a b image : List ℕ) (room : ℕ) (counts values : List ℕ) → (pairNumber a b (tableRoom image room (done counts)) ≡ done values) ↔ TableDone a b image room counts values
+table-done : (a b image : List ℕ) (room : ℕ) (counts values : List ℕ) → (pairOutcome a b (tableRoom image room (done counts)) ≡ done values) ↔ TableDone a b image room counts values
 table-done a b image room counts values = (
   λ e.
       let p = accepted-done a b (tableRoom image room (done counts)) values e in

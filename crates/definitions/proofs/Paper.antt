@@ -16,7 +16,7 @@ use Rattle.definitions.specs.ComplementUnion.{sameRow, agree, share, com
 use Rattle.definitions.specs.SetList.{bits, marksFrom, setRecord, setList}
 use Rattle.definitions.specs.Questions.{imageNumber}
 use Rattle.definitions.specs.Answer.{Outcome, done, refused}
-use Rattle.definitions.specs.Calls.{pairNumber, outerImage, minimumImage, fusedImage, complementOutcome}
+use Rattle.definitions.specs.Calls.{pairOutcome, outerImage, minimumImage, fusedImage, complementOutcome}
 
 -- a filled cell with its number, and the empty cell
 abbrev # : ℕ → ℕ
@@ -296,5 +296,5 @@ paper : all right cases ≡ true
 unfolding pairRight firstRow hasRows againRight counts right all any filter findIndex distinct allBelow sumBelow imageOf flatten insert ascending
     compareRow unionIds widened widenedRows unionRows filled covers subsumes minimumRows sameRow agree share complement contains subsets
     adjacentToAll isComplementing isMaximal maximalSets members join joinAll joined unionSets fusedRows bits marksFrom setRecord setList
-    imageNumber pairNumber outerImage minimumImage fusedImage complementOutcome
+    imageNumber pairOutcome outerImage minimumImage fusedImage complementOutcome
 paper = refl

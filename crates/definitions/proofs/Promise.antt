@@ -2,7 +2,7 @@
 -- same T, columns and room get the same. Assumes nothing.
 use mathlib.Core.Path.{_≡_, refl, sym, _∙_, ap, ap₂, subst}
 use mathlib.Core.Bool.{Bool}
-use mathlib.Core.List.{List, [], _∷_, _++_}
+use mathlib.Core.List.{List, [], _∷_, _++_, flatten}
 use Prim.Native.Nat.{ℕ, _<_}
 use native.Mathlib.Omega.{arith}
 use lib.ListN.{length, getD, take, drop}
@@ -11,19 +11,20 @@ use Rattle.definitions.specs.declared.ComplementAnswer.{ComplementAnswer
 use Rattle.definitions.specs.declared.ComplementAnswer.the-variants as complement
 use Rattle.definitions.specs.Image.{imageOf, imageRows}
 use Rattle.definitions.specs.OuterUnion.{compareRow, unionIds, unionRows}
+use Rattle.definitions.specs.MinimumUnion.{filled}
 use Rattle.definitions.specs.ComplementUnion.{compareSet, joined, unionSets, fusedRows}
 use Rattle.definitions.specs.SetList.{fusedPosition, setList}
 use Rattle.definitions.specs.Answer.{Outcome, done, refused, complementSays, afterwards}
-use Rattle.definitions.specs.Calls.{Accepted, fusedImage, complementOutcome}
+use Rattle.definitions.specs.Calls.{Accepted, outerImage, fusedImage, complementOutcome}
 use Rattle.definitions.specs.Reading.{setCount}
 use Rattle.definitions.specs.Statements.{Member, StrictlyAscending}
-use Rattle.definitions.specs.Demand3.{listedSets, positionAt, Demand3, Fused, tableWords, setWords, SameResult}
-use Rattle.definitions.specs.Promise.{ComplementPromise}
-use Rattle.definitions.specs.Claims.{ComplementDone}
+use Rattle.definitions.specs.Demand3.{listedSets, positionAt, Demand3, MeetsDemand3, tableWords, setWords}
+use Rattle.definitions.specs.Promise.{TablePromise, OuterPromise, ComplementPromise, SameCalls}
+use Rattle.definitions.specs.Claims.{TableDone, ComplementDone}
 use Rattle.definitions.proofs.Lists.{member-get}
 use Rattle.definitions.proofs.Counts.{fused-count}
 use Rattle.definitions.proofs.Unions.{rows-even, fused-even}
-use Rattle.definitions.proofs.Outcomes.{accepted-on, complement-done}
+use Rattle.definitions.proofs.Outcomes.{accepted-on, outer-done, complement-done}
 use Rattle.definitions.proofs.Images.{image-rows-front, accepted-rows}
 use Rattle.definitions.proofs.Reading.{count-read, sets-read, positions-at}
 use Rattle.definitions.proofs.Demand3.{listed-exactly, listed-once, listed-with-row, fused-exactly, fused-once}
@@ -32,17 +33,17 @@ use Rattle.definitions.proofs.Demand3.{every-row, every-minimum-row}
 -- ---- demand 3 from what is read
 
 module _ (a b table sets : List ℕ) (rows : imageRows table ≡ fusedRows (unionRows a b))
-    (listed : listedSets (unionRows a b) table sets ≡ unionSets (unionRows a b))
+    (listed : listedSets (unionRows a b) sets ≡ unionSets (unionRows a b))
     (count : setCount sets ≡ length (unionSets (unionRows a b)))
     (positions : (k : ℕ) → k < length (unionSets (unionRows a b))
-    → positionAt (unionRows a b) table sets k ≡ fusedPosition (unionRows a b) (getD (unionSets (unionRows a b)) k [])) where
+    → positionAt sets k ≡ fusedPosition (unionRows a b) (getD (unionSets (unionRows a b)) k [])) where
   abbrev T : List (List ℕ)
   T = unionRows a b
 
-  to-listed : (s : List Bool) → Member s (unionSets T) → Member s (listedSets T table sets)
+  to-listed : (s : List Bool) → Member s (unionSets T) → Member s (listedSets T sets)
   to-listed s = subst (λ (l : List (List Bool)). Member s l) (sym listed)
 
-  to-sets : (s : List Bool) → Member s (listedSets T table sets) → Member s (unionSets T)
+  to-sets : (s : List Bool) → Member s (listedSets T sets) → Member s (unionSets T)
   to-sets s = subst (λ (l : List (List Bool)). Member s l) listed
 
   to-table : (r : List ℕ) → Member r (fusedRows T) → Member r (imageRows table)
@@ -59,7 +60,7 @@ module _ (a b table sets : List ℕ) (rows : imageRows table ≡ fusedRows (unio
         let g : k < length (unionSets T) = subst (λ (n : ℕ). k < n) count h in
         let i = listed-with-row a b (getD (unionSets T) k []) (member-get [] (unionSets T) k g) in
         let p = positions k g in (
-          subst (λ (l : List (List ℕ)). positionAt T table sets k < length l) (sym rows)
+          subst (λ (l : List (List ℕ)). positionAt sets k < length l) (sym rows)
               (subst (λ (q : ℕ). q < length (fusedRows T)) (sym p) (i .0)),
           ap₂ (λ (l : List (List ℕ)) (q : ℕ). getD l q []) rows p ∙ i .1
               ∙ ap (λ (l : List (List Bool)). joined T (getD l k [])) (sym listed),
@@ -97,8 +98,8 @@ module _ (a b table sets : List ℕ) (answer : Outcome) (tableAfter setsAfter : 
     (answers : answer ≡ complementOutcome a b (length table) (length sets))
     (writes : tableAfter ≡ afterwards answer (fusedImage a b) table)
     (lists : setsAfter ≡ afterwards answer (setList (unionRows a b)) sets) where
-  meets-demand : Fused answer a b tableAfter setsAfter
-  unfolding Fused
+  meets-demand : MeetsDemand3 answer a b tableAfter setsAfter
+  unfolding MeetsDemand3
   meets-demand = λ values e.
       let image = fusedImage a b in
       let list = setList (unionRows a b) in
@@ -182,20 +183,15 @@ module _ (a b c d : List ℕ) (ab : Accepted a b) (cd : Accepted c d) (columns :
   unfolding complementOutcome
   same-outcome room setRoom = accepted-on a b _ ab ∙ rw (same-image, rows) (sym (accepted-on c d _ cd))
 
-  -- "given a table buffer and a set buffer as long as the first pair's, gets from complement union the same answer, done
-  -- or refused, and the same written words."
-  pub same-calls : (table₁ table₂ sets₁ sets₂ : List ℕ) → length table₁ ≡ length table₂ → length sets₁ ≡ length sets₂
-      → (x y : Outcome) (tableAfter₁ tableAfter₂ setsAfter₁ setsAfter₂ : List ℕ)
-      → ComplementPromise a b table₁ sets₁ x tableAfter₁ setsAfter₁ → ComplementPromise c d table₂ sets₂ y tableAfter₂ setsAfter₂
-      → SameResult x y tableAfter₁ tableAfter₂ setsAfter₁ setsAfter₂
-  same-calls table₁ table₂ sets₁ sets₂ room setRoom x y tableAfter₁ tableAfter₂ setsAfter₁ setsAfter₂ p q =
-      let e : x ≡ y =
-      p .answers ∙ same-outcome (length table₁) (length sets₁) ∙ ap₂ (complementOutcome c d) room setRoom ∙ sym (q .answers) in
-      record {
-        answer = e;
-        table-words = table-front p ∙ ap₂ writtenWords e same-image ∙ sym (table-front q);
-        set-words = set-front p ∙ ap₂ writtenWords e (ap setList rows) ∙ sym (set-front q);
-      }
+pub same-calls : SameCalls
+same-calls a b c d ab cd columns rows table₁ table₂ sets₁ sets₂ room setRoom x y tableAfter₁ tableAfter₂ setsAfter₁ setsAfter₂ p q =
+    let outcome = same-outcome a b c d ab cd columns rows (length table₁) (length sets₁) in
+    let e : x ≡ y = p .answers ∙ outcome ∙ ap₂ (complementOutcome c d) room setRoom ∙ sym (q .answers) in
+    record {
+      answer = e;
+      table-words = table-front p ∙ ap₂ writtenWords e (same-image a b c d ab cd columns rows) ∙ sym (table-front q);
+      set-words = set-front p ∙ ap₂ writtenWords e (ap setList rows) ∙ sym (set-front q);
+    }
 
 -- answers of complement union that say the same are the same
 pub says-same : (x y : ComplementAnswer) → complementSays x ≡ complementSays y → x ≡ y
@@ -203,3 +199,20 @@ says-same (complement.Done rows words filled sets listWords) (complement.Done ro
 says-same (complement.Done rows words filled sets listWords) (complement.Refused number' table') e = cc
 says-same (complement.Refused number table) (complement.Done rows' words' filled' sets' listWords') e = cc
 says-same (complement.Refused number table) (complement.Refused number' table') e = cc
+
+-- ---- demand 1, over the promises
+
+-- "a refusal changes no word of a lent buffer"
+pub refusal-keeps : {outcome : Outcome} {image table tableAfter : List ℕ} (number k : ℕ)
+    → TablePromise outcome image table (refused number k) tableAfter → tableAfter ≡ table
+refusal-keeps number k p = p .writes
+
+pub refusal-keeps-both : {a b table sets tableAfter setsAfter : List ℕ} (number k : ℕ)
+    → ComplementPromise a b table sets (refused number k) tableAfter setsAfter → (tableAfter ≡ table) × (setsAfter ≡ sets)
+refusal-keeps-both number k p = (p .writes, p .lists)
+
+-- "no other call is refused": a done call has had a yes to each question, and carries its counts
+pub outer-complete : (a b table tableAfter values : List ℕ) → OuterPromise a b table (done values) tableAfter
+    → TableDone a b (outerImage a b) (length table)
+    (length (unionRows a b) ∷ length (outerImage a b) ∷ filled (flatten (unionRows a b)) ∷ []) values
+outer-complete a b table tableAfter values p = outer-done a b (length table) values .0 (sym (p .answers))

@@ -17,13 +17,13 @@ use Rattle.definitions.specs.SetList.{fusedPosition, setList}
 use Rattle.definitions.specs.Questions.{ask, hasHeader, columnsFit, rowsFit, lengthFits}
 use Rattle.definitions.specs.Questions.{columnsRight, idsDistinct, cellsRight, imageNumber}
 use Rattle.definitions.specs.Answer.{Outcome, done, refused, unless, no}
-use Rattle.definitions.specs.Calls.{pairNumber, fusedImage, complementOutcome}
+use Rattle.definitions.specs.Calls.{pairOutcome, fusedImage, complementOutcome}
 use Rattle.definitions.specs.Reading.{positionsOf}
 use Rattle.definitions.specs.Text.{ascii}
 use Rattle.definitions.specs.Listing.{line, columnsLine, unionTitle, minimumTitle, setsTitle, fusedTitle}
 use Rattle.definitions.specs.Listing.{rowLine, setLine, raggedLine}
 use Rattle.definitions.specs.Program.{rowLines, setLines, unionText, minimumText, setsText, fusedText, listing}
-use Rattle.definitions.specs.Program.{maxBytes, wordsOf, lentTable, lentSets, answered, unionsText, readText, fuseText}
+use Rattle.definitions.specs.Program.{maxBytes, wordsOf, lentTable, lentSets, unlessRefused, unionsText, readText, fuseText}
 use Rattle.definitions.specs.Program.{rowBytes, setBytes, maxText}
 use Rattle.definitions.specs.Statements.{Member}
 use Rattle.definitions.specs.Claims.{ComplementDone, empties}
@@ -167,7 +167,7 @@ small-image limit image =
     (small-ask (cellsRight image) 7 0 (omega arith) (omega arith)))))))
 
 pub small-refusal : (a b : List ℕ) (room setRoom : ℕ) → SmallRefusal (complementOutcome a b room setRoom)
-unfolding complementOutcome pairNumber
+unfolding complementOutcome pairOutcome
 small-refusal a b room setRoom =
     small-unless (imageNumber maxRows a) 0 _ (small-image maxRows a) (omega arith)
     (small-unless (imageNumber maxRows b) 1 _ (small-image maxRows b) (omega arith)
@@ -179,7 +179,7 @@ small-refusal a b room setRoom =
 -- ---- the whole text
 
 answered-bound : (a b : List ℕ) (o : Outcome) → complementOutcome a b lentTable lentSets ≡ o → SmallRefusal o
-    → length (answered o (listing a b)) ≤ maxText
+    → length (unlessRefused o (listing a b)) ≤ maxText
 answered-bound a b (done values) e s = listing-bound a b lentTable lentSets values (complement-done a b lentTable lentSets values .0 e)
 answered-bound a b (refused number table) e s = omega (arith, refused-bound number table (omega (arith, s .0)) (omega (arith, s .1)))
 

@@ -36,9 +36,10 @@ complementWords = answerWords (λ values. take 3 values ++ 0 ∷ drop 3 values +
 abbrev pub putOver : List ℕ → List ℕ → List ℕ
 putOver words found = take (length found) words ++ drop (length words) found
 
--- what a C function promises: what the call promises of some answer, that answer's number, and its words in the answer buffer
-pub record Answered (Promise : Outcome → Type 0) (words : Outcome → List ℕ) (found : List ℕ) (r : ℕ) (after : List ℕ) : Type 0 where
+-- what a C function promises: what the call promises of an answer, that answer's number, and its words in the answer buffer.
+-- A promise of a call holds of one answer alone: its field `answers` says which.
+pub record Answered (P : Outcome → Type 0) (words : Outcome → List ℕ) (found : List ℕ) (r : ℕ) (after : List ℕ) : Type 0 where
   pub answer : Outcome
-  pub promise : Promise answer
+  pub promise : P answer
   pub returns : r ≡ numberOf answer
   pub puts : after ≡ putOver (words answer) found

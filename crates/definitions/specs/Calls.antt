@@ -14,8 +14,8 @@ use Rattle.definitions.specs.Questions.{imageNumber}
 use Rattle.definitions.specs.Answer.{Outcome, done, unless, no}
 
 -- "Questions 1–7 are all put to the first table, then all to the second", then "Has the union at most 16 columns?"
-unfoldable pub pairNumber : List ℕ → List ℕ → Outcome → Outcome
-pairNumber a b rest =
+unfoldable pub pairOutcome : List ℕ → List ℕ → Outcome → Outcome
+pairOutcome a b rest =
     unless (imageNumber maxRows a) 0
     (unless (imageNumber maxRows b) 1
     (unless (no (leb (length (unionIds a b)) maxColumns) 8) 2 rest))
@@ -42,13 +42,13 @@ fusedImage a b = imageOf (unionIds a b) (fusedRows (unionRows a b))
 
 unfoldable pub outerOutcome : List ℕ → List ℕ → ℕ → Outcome
 outerOutcome a b room =
-    pairNumber a b
+    pairOutcome a b
     (tableRoom (outerImage a b) room
     (done (length (unionRows a b) ∷ length (outerImage a b) ∷ filled (flatten (unionRows a b)) ∷ [])))
 
 unfoldable pub minimumOutcome : List ℕ → List ℕ → ℕ → Outcome
 minimumOutcome a b room =
-    pairNumber a b
+    pairOutcome a b
     (tableRoom (minimumImage a b) room
     (done (length (minimumRows (unionRows a b)) ∷ length (minimumImage a b)
     ∷ filled (flatten (minimumRows (unionRows a b))) ∷ pairsTried (unionRows a b) ∷ [])))
@@ -56,7 +56,7 @@ minimumOutcome a b room =
 -- "are there at most 1,024 maximal sets?", the table's room, "has the set buffer the words that the set list takes?"
 unfoldable pub complementOutcome : List ℕ → List ℕ → ℕ → ℕ → Outcome
 complementOutcome a b room setRoom =
-    pairNumber a b
+    pairOutcome a b
     (unless (no (leb (length (unionSets (unionRows a b))) maxSets) 9) 2
     (tableRoom (fusedImage a b) room
     (unless (no (leb (length (setList (unionRows a b))) setRoom) 11) 2

@@ -30,45 +30,42 @@ module _ (T : List (List ℕ)) (s : List Bool) where
 
 -- ---- the demand
 
-module _ (T : List (List ℕ)) (table sets : List ℕ) where
-  -- the sets that the set buffer lists, in their order: of a record's set as many positions as T has rows
-  abbrev pub listedSets : List (List Bool)
-  listedSets = map (λ words. take (length T) (setIn markWords words)) (recordsIn markWords sets)
+-- the sets of positions of T that the set buffer lists, in their order: of a record's set as many positions as T has rows
+abbrev pub listedSets : List (List ℕ) → List ℕ → List (List Bool)
+listedSets T sets = map (λ words. take (length T) (setIn markWords words)) (recordsIn markWords sets)
 
-  abbrev pub Listed : List Bool → Type 0
-  Listed s = Member s listedSets
+-- the position in the fused table that the record at k names
+abbrev pub positionAt : List ℕ → ℕ → ℕ
+positionAt sets k = positionIn markWords (getD (recordsIn markWords sets) k [])
 
-  -- the position that the record at k names
-  abbrev pub positionAt : ℕ → ℕ
-  positionAt k = positionIn markWords (getD (recordsIn markWords sets) k [])
+-- t is "equal to or subsumed by a fused row"
+abbrev pub Covered : List ℕ → List ℕ → Type 0
+Covered table t = (f : List ℕ) × Member f (imageRows table) × ((f ≡ t) ⊎ (subsumes f t ≡ true))
 
-  -- t is "equal to or subsumed by a fused row"
-  abbrev pub Covered : List ℕ → Type 0
-  Covered t = (f : List ℕ) × Member f (imageRows table) × ((f ≡ t) ⊎ (subsumes f t ≡ true))
-
-  pub record Demand3 : Type 0 where
-    -- "lists a set of rows of T exactly when the set isn't empty, every two different rows in it complement each other,
-    -- and no row of T outside it complements all its rows"
-    pub exactly : (s : List Bool) → Listed s ↔ MaximalRows T s
-    -- "Each such set stands in the set list once, in document 01's set order,"
-    pub once-in-order : StrictlyAscending compareSet listedSets
-    -- "with the position of its joined row in the fused table."
-    pub with-its-row : (k : ℕ) → k < setCount sets
-        → (positionAt k < length (imageRows table))
-        × (getD (imageRows table) (positionAt k) [] ≡ joined T (getD listedSets k []))
-    -- "That table holds these joined rows and no others,"
-    pub joined-rows : (r : List ℕ) → Member r (imageRows table) ↔ ((s : List Bool) × Listed s × (r ≡ joined T s))
-    -- "each once, ascending."
-    pub rows-once : StrictlyAscending compareRow (imageRows table)
-    -- "Every row of T,"
-    pub every-row : (t : List ℕ) → Member t T → Covered t
-    -- "and so every row of the minimum union, is equal to or subsumed by a fused row."
-    pub every-minimum-row : (t : List ℕ) → Member t (minimumRows T) → Covered t
+-- What is read here is what each sentence speaks of; kinds of words, unused bits and column ids are told by the equations of the promise.
+pub record Demand3 (T : List (List ℕ)) (table sets : List ℕ) : Type 0 where
+  -- "lists a set of rows of T exactly when the set isn't empty, every two different rows in it complement each other,
+  -- and no row of T outside it complements all its rows"
+  pub exactly : (s : List Bool) → Member s (listedSets T sets) ↔ MaximalRows T s
+  -- "Each such set stands in the set list once, in document 01's set order,"
+  pub once-in-order : StrictlyAscending compareSet (listedSets T sets)
+  -- "with the position of its joined row in the fused table."
+  pub with-its-row : (k : ℕ) → k < setCount sets
+      → (positionAt sets k < length (imageRows table))
+      × (getD (imageRows table) (positionAt sets k) [] ≡ joined T (getD (listedSets T sets) k []))
+  -- "That table holds these joined rows and no others,"
+  pub joined-rows : (r : List ℕ) → Member r (imageRows table) ↔ ((s : List Bool) × Member s (listedSets T sets) × (r ≡ joined T s))
+  -- "each once, ascending."
+  pub rows-once : StrictlyAscending compareRow (imageRows table)
+  -- "Every row of T,"
+  pub every-row : (t : List ℕ) → Member t T → Covered table t
+  -- "and so every row of the minimum union, is equal to or subsumed by a fused row."
+  pub every-minimum-row : (t : List ℕ) → Member t (minimumRows T) → Covered table t
 
 -- "Whatever the two tables hold, a complement union of them that isn't refused": T is "the distinct rows of the outer
 -- union"
-unfoldable pub Fused : Outcome → List ℕ → List ℕ → List ℕ → List ℕ → Type 0
-Fused answer a b table sets = (values : List ℕ) → answer ≡ done values → Demand3 (unionRows a b) table sets
+unfoldable pub MeetsDemand3 : Outcome → List ℕ → List ℕ → List ℕ → List ℕ → Type 0
+MeetsDemand3 answer a b table sets = (values : List ℕ) → answer ≡ done values → Demand3 (unionRows a b) table sets
 
 -- ---- its last sentence
 

@@ -1,4 +1,4 @@
--- The limits of document 01, each by name, and here alone.
+-- The limits of document 01 on tables, unions and sets, each by name, and here alone.
 use Prim.Native.Nat.{ℕ, _+_}
 
 -- "A source table has 1 to 16 columns and 0 to 32 rows." A union has at most 16 columns too.

@@ -36,7 +36,7 @@ rowLine cells = line (map cellText cells)
 
 -- "A set line gives positions in T, then `>`, then the fused row's position."
 abbrev pub setLine : List ℕ → ℕ → List ℕ
-setLine positions place = line (map decimal positions ++ (ascii ">" ∷ decimal place ∷ []))
+setLine positions position = line (map decimal positions ++ (ascii ">" ∷ decimal position ∷ []))
 
 -- "one line, `ragged` and that file's name"
 abbrev pub raggedLine : List ℕ → List ℕ

@@ -78,13 +78,13 @@ abbrev pub lentSets : ℕ
 lentSets = 4100
 
 -- "If complement union is refused, the whole output is the line `refused N table K`."
-abbrev pub answered : Outcome → List ℕ → List ℕ
-answered (done values) text = text
-answered (refused number table) text = refusedLine number table
+abbrev pub unlessRefused : Outcome → List ℕ → List ℕ
+unlessRefused (done values) text = text
+unlessRefused (refused number table) text = refusedLine number table
 
 -- the text for two images
 unfoldable pub unionsText : List ℕ → List ℕ → List ℕ
-unionsText a b = answered (complementOutcome a b lentTable lentSets) (listing a b)
+unionsText a b = unlessRefused (complementOutcome a b lentTable lentSets) (listing a b)
 
 -- "If the bytes read of a file aren't a multiple of 4, its whole output is one line, `ragged` and that file's name"
 abbrev pub unlessRagged : List ℕ → List ℕ → List ℕ → List ℕ

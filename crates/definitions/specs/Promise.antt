@@ -4,12 +4,12 @@ use mathlib.Core.Path.{_≡_}
 use mathlib.Core.List.{List}
 use Prim.Native.Nat.{ℕ}
 use lib.ListN.{length}
-use Rattle.definitions.specs.OuterUnion.{unionRows}
+use Rattle.definitions.specs.OuterUnion.{unionIds, unionRows}
 use Rattle.definitions.specs.SetList.{setList}
 use Rattle.definitions.specs.Answer.{Outcome, afterwards}
-use Rattle.definitions.specs.Calls.{outerImage, minimumImage, fusedImage}
+use Rattle.definitions.specs.Calls.{Accepted, outerImage, minimumImage, fusedImage}
 use Rattle.definitions.specs.Calls.{outerOutcome, minimumOutcome, complementOutcome}
-use Rattle.definitions.specs.Demand3.{Fused}
+use Rattle.definitions.specs.Demand3.{MeetsDemand3, SameResult}
 
 -- a call with a table buffer alone, by its outcome and the image of its result
 pub record TablePromise (outcome : Outcome) (image table : List ℕ) (answer : Outcome) (tableAfter : List ℕ) : Type 0 where
@@ -27,4 +27,15 @@ pub record ComplementPromise (a b table sets : List ℕ) (answer : Outcome) (tab
   pub writes : tableAfter ≡ afterwards answer (fusedImage a b) table
   pub lists : setsAfter ≡ afterwards answer (setList (unionRows a b)) sets
   -- a done call meets demand 3, sentence by sentence
-  pub demand : Fused answer a b tableAfter setsAfter
+  pub demand : MeetsDemand3 answer a b tableAfter setsAfter
+
+-- demand 3, last sentence, of two calls: "Any other accepted pair with the same union columns and the same T, given a table
+-- buffer and a set buffer as long as the first pair's, gets from complement union the same answer, done or refused, and
+-- the same written words."
+abbrev pub SameCalls : Type 0
+SameCalls =
+    (a b c d : List ℕ) → Accepted a b → Accepted c d → unionIds a b ≡ unionIds c d → unionRows a b ≡ unionRows c d
+    → (table₁ table₂ sets₁ sets₂ : List ℕ) → length table₁ ≡ length table₂ → length sets₁ ≡ length sets₂
+    → (x y : Outcome) (tableAfter₁ tableAfter₂ setsAfter₁ setsAfter₂ : List ℕ)
+    → ComplementPromise a b table₁ sets₁ x tableAfter₁ setsAfter₁ → ComplementPromise c d table₂ sets₂ y tableAfter₂ setsAfter₂
+    → SameResult x y tableAfter₁ tableAfter₂ setsAfter₁ setsAfter₂

@@ -19,7 +19,7 @@ columnsFit image = leb 1 (columnCount image) && leb (columnCount image) maxColum
 
 -- "Are there at most 32 rows?"
 abbrev pub rowsFit : ℕ → List ℕ → Bool
-rowsFit maxRows image = leb (rowCount image) maxRows
+rowsFit limit image = leb (rowCount image) limit
 
 -- "Has the image exactly 1 + c + r × c words?"
 abbrev pub lengthFits : List ℕ → Bool
@@ -44,10 +44,10 @@ ask false number rest = number
 
 -- "In order; the first no gives its number": 0 where all seven are answered yes. The row limit is a parameter.
 unfoldable pub imageNumber : ℕ → List ℕ → ℕ
-imageNumber maxRows image =
+imageNumber limit image =
     ask (hasHeader image) 1
     (ask (columnsFit image) 2
-    (ask (rowsFit maxRows image) 3
+    (ask (rowsFit limit image) 3
     (ask (lengthFits image) 4
     (ask (columnsRight image) 5
     (ask (idsDistinct image) 6

@@ -40,7 +40,7 @@ setIn m words = marksIn (wordMarks * m) words
 -- the positions of a set, ascending, from a position on
 unfoldable pub positionsOf : ℕ → List Bool → List ℕ
 positionsOf from [] = []
-positionsOf from (m ∷ set) = cond m (from ∷ []) [] ++ positionsOf (suc from) set
+positionsOf from (b ∷ set) = cond b (from ∷ []) [] ++ positionsOf (suc from) set
 
 -- "and one of kind 1 with the joined row's position in the fused table"
 abbrev pub positionIn : ℕ → List ℕ → ℕ

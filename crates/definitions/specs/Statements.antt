@@ -20,11 +20,11 @@ pub record Orders {A : Type 0} (compare : A → A → Order) : Type 0 where
 
 module _ {A : Type 0} (compare : A → A → Order) where
   -- a comes before every element of the list
-  abbrev pub Above : A → List A → Type 0
-  Above a [] = Unit {0}
-  Above a (b ∷ rest) = (compare a b ≡ Before) × Above a rest
+  abbrev pub BeforeAll : A → List A → Type 0
+  BeforeAll a [] = Unit {0}
+  BeforeAll a (b ∷ rest) = (compare a b ≡ Before) × BeforeAll a rest
 
   -- strictly ascending: each element comes before all that follow it
   abbrev pub StrictlyAscending : List A → Type 0
   StrictlyAscending [] = Unit {0}
-  StrictlyAscending (a ∷ rest) = Above a rest × StrictlyAscending rest
+  StrictlyAscending (a ∷ rest) = BeforeAll a rest × StrictlyAscending rest

@@ -1,4 +1,4 @@
-// The limits of document 01, each by name, and here alone. specs/Limits has the same for the contracts.
+// The limits of document 01 on tables, unions and sets, each by name, and here alone. specs/Limits has the same for the contracts.
 
 // The columns of a table, and of a union.
 pub const MAX_COLUMNS: usize = 16;

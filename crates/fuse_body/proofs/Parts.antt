@@ -23,7 +23,7 @@ use Rattle.definitions.specs.Promise.{OuterPromise, MinimumPromise}
 use Rattle.definitions.specs.Reading.{positionsOf}
 use Rattle.definitions.specs.Listing.{columnsLine, unionTitle, minimumTitle, setsTitle, fusedTitle, setLine, refusedLine}
 use Rattle.definitions.specs.Program.{rowLines, setLines, lentTable, lentSets, unionText, minimumText, setsText, fusedText, listing}
-use Rattle.definitions.specs.Program.{answered, unionsText}
+use Rattle.definitions.specs.Program.{unlessRefused, unionsText}
 use Rattle.definitions.specs.Statements.{Member}
 use Rattle.definitions.specs.Claims.{ComplementDone}
 use Rattle.definitions.proofs.Lists.{map-ext}
@@ -203,7 +203,7 @@ module _ (a b : List ℕ) where
         length-append (setsText a b) (fusedText a b),
       )
 
--- ---- what complement union answered
+-- ---- what complement union unlessRefused
 
 module _ {a b fused sets : List ℕ} {answer : ComplementAnswer} (w : FusedAnswer a b answer fused sets) where
   outcome : complementSays answer ≡ complementOutcome a b lentTable lentSets
@@ -211,7 +211,7 @@ module _ {a b fused sets : List ℕ} {answer : ComplementAnswer} (w : FusedAnswe
 
   pub refused-text : {number table : ℕ} → answer ≡ Refused number table → refusedLine number table ≡ unionsText a b
   unfolding unionsText
-  refused-text is = ap (λ (o : Outcome). answered o (listing a b)) (sym (ap complementSays is) ∙ outcome)
+  refused-text is = ap (λ (o : Outcome). unlessRefused o (listing a b)) (sym (ap complementSays is) ∙ outcome)
 
   module _ {rows words cells count setWords : ℕ} (is : answer ≡ Done rows words cells count setWords) where
     abbrev values : List ℕ
@@ -222,7 +222,7 @@ module _ {a b fused sets : List ℕ} {answer : ComplementAnswer} (w : FusedAnswe
 
     pub listed-text : listing a b ≡ unionsText a b
     unfolding unionsText
-    listed-text = ap (λ (o : Outcome). answered o (listing a b)) said
+    listed-text = ap (λ (o : Outcome). unlessRefused o (listing a b)) said
 
     pub listed-words : FusedWords a b fused rows cells sets count
     unfolding fusedImage fusedText

@@ -8,11 +8,9 @@ ghost use Rattle.fusing.specs.Fused.{RowsOf};
 ghost use Rattle.fusing.specs.Groups.{Led};
 ghost use Rattle.fusing.specs.Graph.{Crossing, CrossingRows, NarrowedBy, Narrowed, GraphOf};
 use crate::groups::group_rows;
+use bitsets::ALL_ROWS;
 use definitions::MAX_UNION_ROWS;
 use patterns::blank;
-
-// The word with every bit.
-const ALL_ROWS: u64 = 18446744073709551615;
 
 // The rows whose filled columns cross those of a row: filled somewhere where the row is (`shared`), but not everywhere where it is
 // (`above`), nor nowhere else (`within`).

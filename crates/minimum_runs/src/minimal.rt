@@ -6,7 +6,7 @@ fn minimum(name: &[u8], first: &[u8], second: &[u8], room: usize) {
     case(Call::Minimum, name, first, second, room, 0);
 }
 
-pub fn few() {
+pub(crate) fn few() {
     minimum(
         b"minimum of board and plant",
         b":;<| 73- 7-X 95Y",
@@ -26,7 +26,7 @@ pub fn few() {
     minimum(b"minimum, number 0 subsumes", b"12| 0-", b"12| --", 8);
 }
 
-pub fn many() {
+pub(crate) fn many() {
     minimum(
         b"minimum of 64 rows",
         b"1| 0123456789:;<=>?@ABCDEFGHIJKLMNO",

@@ -6,7 +6,7 @@ fn outer(name: &[u8], first: &[u8], second: &[u8], room: usize) {
     case(Call::Outer, name, first, second, room, 0);
 }
 
-pub fn rows() {
+pub(crate) fn rows() {
     outer(b"no rows", b"1|", b"1|", 8);
     outer(b"one cell", b"1| 7", b"1|", 8);
     outer(b"one empty cell", b"1| -", b"1| -", 8);
@@ -26,7 +26,7 @@ pub fn rows() {
     );
 }
 
-pub fn columns() {
+pub(crate) fn columns() {
     outer(b"disjoint columns", b"31| 56", b"42| 78", 16);
     outer(b"shared columns", b"312| 567 -8-", b"24| 78 7-", 24);
     outer(b"same columns, other order", b"21| 56", b"12| 65", 8);
@@ -45,7 +45,7 @@ pub fn columns() {
     outer(b"17 columns, no room", b"12345678|", b"9:;<=>?@A|", 0);
 }
 
-pub fn room() {
+pub(crate) fn room() {
     outer(
         b"buffer one word short",
         b":;<| 73- 7-X 95Y",

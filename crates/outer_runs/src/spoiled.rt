@@ -36,7 +36,7 @@ fn each_cut(name: &[u8], n: usize) {
     outer(LENGTH, NOWHERE, 0, n, NOWHERE, 0);
 }
 
-pub fn heads() {
+pub(crate) fn heads() {
     each(b"sound", NOWHERE, 0);
     each_cut(b"no words", 0);
     each(b"header of kind 2", 0, 0x8008_0002);
@@ -48,7 +48,7 @@ pub fn heads() {
     each(b"3 rows in the header", 0, 0xc00c_0002);
 }
 
-pub fn words() {
+pub(crate) fn words() {
     each_cut(b"one word short", 6);
     each_cut(b"one word long", 8);
     each(b"column of kind 1", 2, 0x4000_0002);
@@ -65,7 +65,7 @@ fn pair(name: &[u8], at: usize, word: u32, m: usize, second_at: usize, second_wo
     outer(LENGTH, at, word, m, second_at, second_word);
 }
 
-pub fn both() {
+pub(crate) fn both() {
     pair(b"7 in the first, 1 in the second", 6, 1, LENGTH, 0, 0);
     pair(b"7 in the first, 4 in the second", 6, 1, 6, NOWHERE, 0);
     pair(b"5 in the second, 1 in the first", 0, 0, LENGTH, 1, 0);

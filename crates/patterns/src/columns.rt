@@ -1,6 +1,7 @@
 // The columns' words: for each column the set of the rows that are filled there, a bit a row. They tell of all rows at once which share a
 // filled column with a row, and which are filled wherever it is.
 use crate::bit;
+use bitsets::ALL_ROWS;
 ghost use mathlib.Core.Path.{_≡_};
 ghost use mathlib.Core.List.{[]};
 ghost use Prim.Native.Nat.{_*_, _≤_, _<_};
@@ -8,9 +9,6 @@ ghost use lib.ListN.{length};
 ghost use Rattle.definitions.specs.Image.{rowsIn};
 ghost use Rattle.patterns.specs.Columns.{blankOf, ColumnsOf, FilledRow};
 ghost use Rattle.bitsets.specs.Bits.{wordBits};
-
-// The word that holds every row.
-const ALL_ROWS: u64 = 18446744073709551615;
 
 // All rows for an empty cell, none for a filled one.
 pub fn blank(cell: u32) -> u64

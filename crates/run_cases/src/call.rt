@@ -92,7 +92,7 @@ fn lend(call: Call, a: &[u32], b: &[u32], table: &mut [u32], list: &mut [u32]) {
 }
 
 // Makes a call with buffers of some words, none of them more than 12,000.
-pub fn run(call: Call, a: &[u32], b: &[u32], room: usize, set_room: usize) {
+pub(crate) fn run(call: Call, a: &[u32], b: &[u32], room: usize, set_room: usize) {
     let mut found = [print::FOUND; 12000];
     let table: &mut [u32] = &mut found;
     let mut found_sets = [print::FOUND; 12000];

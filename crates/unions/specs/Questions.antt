@@ -5,13 +5,13 @@ use Prim.Native.Nat.{ℕ, _≤_}
 use lib.Dec.{leb}
 use lib.ListN.{length, take}
 use Rattle.definitions.specs.Answer.{Outcome, unless, no}
-use Rattle.definitions.specs.Calls.{pairNumber}
+use Rattle.definitions.specs.Calls.{pairOutcome}
 use Rattle.tables.specs.Table.{Found}
 use Rattle.unions.specs.declared.questions.Checks.{Checks}
 
 -- the number and the table are those of the first question answered no, and 0 is an accepted pair, whose ids begin the list
 pub record Checked (a b all : List ℕ) (r : Checks) : Type 0 where
-  pub says : (rest : Outcome) → pairNumber a b rest ≡ unless (r .number) (r .table) rest
+  pub says : (rest : Outcome) → pairOutcome a b rest ≡ unless (r .number) (r .table) rest
   pub within : r .columns ≤ length all
   pub accepted : r .number ≡ 0 → Found a b (take (r .columns) all)
 

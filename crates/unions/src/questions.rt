@@ -10,7 +10,7 @@ use definitions::MAX_ROWS;
 pub(crate) struct Checks {
     pub(crate) number: u32,
     pub(crate) table: u32,
-    pub columns: usize,
+    pub(crate) columns: usize,
 }
 
 // Writes the ids of both images over the list, each once, to count them; an accepted pair's table is made of them.
