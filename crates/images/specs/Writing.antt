@@ -12,6 +12,12 @@ use Rattle.definitions.specs.Promise.{TablePromise}
 use Rattle.rows.specs.Indices.{rowsAt, Fit}
 use Rattle.images.specs.declared.write.Put.{Put}
 
+-- n ids that column words can hold, and room for these words behind a header
+pub record WritableIds (ids : List ℕ) (n : ℕ) (buffer : List ℕ) : Type 0 where
+  pub short : n ≤ length ids
+  pub small : (k : ℕ) → k < n → getD ids k 0 < 2 ^ 16
+  pub room : n < length buffer
+
 -- n ids, and m indices of rows of n cells, that an image can hold
 pub record Writable (ids : List ℕ) (n : ℕ) (cells order : List ℕ) (m : ℕ) : Type 0 where
   pub short : n ≤ length ids

@@ -1,17 +1,16 @@
 // The writing of a table image.
 ghost use mathlib.Core.Path.{_≡_};
 ghost use mathlib.Core.List.{_∷_, map};
-ghost use Prim.Native.Nat.{ℕ, _+_, _*_, _≤_, _<_, _^_};
-ghost use lib.ListN.{length, getD, take};
+ghost use Prim.Native.Nat.{_+_, _*_, _≤_, _<_, _^_};
+ghost use lib.ListN.{length, take};
 ghost use lib.Seq.{paste};
 ghost use Rattle.definitions.specs.Word.{headerWord, columnWord};
 ghost use Rattle.rows.specs.Indices.{rowsAt};
-ghost use Rattle.images.specs.Writing.{Writable, WrittenImage, PutImage};
+ghost use Rattle.images.specs.Writing.{WritableIds, Writable, WrittenImage, PutImage};
 
 // Writes the column words of the first n ids, from word 1 of the buffer.
 fn write_ids(ids: &[u32], n: usize, buffer: &mut [u32])
-    requires { ⌜ (n ≤ length (now ids)) × (n < length (now buffer)) ⌝ }
-    requires { ⌜ ((k : ℕ) → k < n → getD (now ids) k 0 < 2 ^ 16) ⌝ }
+    requires { ⌜ WritableIds (now ids) n (now buffer) ⌝ }
     ensures { λ r. ⌜ now (buffer .exit) ≡ paste (now (buffer .entry)) 1 (map columnWord (now (ids .entry))) n ⌝ }
 {
     let mut i = 0;
@@ -23,8 +22,7 @@ fn write_ids(ids: &[u32], n: usize, buffer: &mut [u32])
 
 // Writes the header and the column words of an image over the front of the buffer.
 fn write_head(ids: &[u32], n: usize, rows: usize, buffer: &mut [u32])
-    requires { ⌜ (n ≤ length (now ids)) × (n < length (now buffer)) × (rows < 2 ^ 12) × (n < 2 ^ 5) ⌝ }
-    requires { ⌜ ((k : ℕ) → k < n → getD (now ids) k 0 < 2 ^ 16) ⌝ }
+    requires { ⌜ WritableIds (now ids) n (now buffer) × (rows < 2 ^ 12) × (n < 2 ^ 5) ⌝ }
     ensures { λ r. ⌜ now (buffer .exit) ≡ paste (now (buffer .entry)) 0
         (headerWord rows n ∷ map columnWord (take n (now (ids .entry)))) (1 + n) ⌝ }
 {

@@ -32,7 +32,7 @@ returns c =
     let q = w .before .before .before in
     let s = q .args in
     let e = ap (set (s .buffer .now) 0) (w .header-word .ensures) in
-    head-written (s .buffer .now) _ _ (s .ids .now) _ (s .n) (q .pre .0 .0) (q .pre .0 .1) e (c .before .before .write-ids .ensures)
+    head-written (s .buffer .now) _ _ (s .ids .now) _ (s .n) (q .pre .0 .short) (q .pre .0 .room) e (c .before .before .write-ids .ensures)
 
 pub write-head-spec : {M : Type 1} → statement M
 write-head-spec =

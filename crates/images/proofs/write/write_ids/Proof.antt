@@ -28,7 +28,7 @@ shared-slice-read-word-of c = search needs
 word-of-requires : tie.Need-word-of-requires Inv-loop μ-loop
 word-of-requires c κs =
     let l = c .before .before in
-    (search needs, omega (arith, l .before .before .before .pre .1 (l .loop .i) (c .before .loop-test .taken)))
+    (search needs, omega (arith, l .before .before .before .pre .small (l .loop .i) (c .before .loop-test .taken)))
 
 add-buffer : tie.Need-add-buffer Inv-loop μ-loop
 add-buffer c = search needs

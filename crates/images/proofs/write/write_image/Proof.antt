@@ -1,4 +1,5 @@
 -- The head and then the rows by their indices are the image, and the rows written are counted.
+use native.Mathlib.Omega.{arith}
 use Rattle.images.proofs.Rows.{image-rows-written}
 use borrow.Author.Needs.{needs}
 use Rattle.images.proofs.write.write_image.Statement.{statement}
@@ -8,7 +9,14 @@ add-start : tie.Need-add-start
 add-start c = search needs
 
 write-head-requires : tie.Need-write-head-requires
-write-head-requires c κs = search needs
+write-head-requires c κs =
+    let p = c .before .before .before .before .before .pre in
+    let k = p .0 in
+    (
+      record { short = k .short; small = k .small; room = omega (arith, p .1) },
+      omega (arith, k .few-rows),
+      omega (arith, k .few-columns),
+    )
 
 write-rows-requires : tie.Need-write-rows-requires
 write-rows-requires c κs = search needs
