@@ -113,6 +113,13 @@ module _ (cap : ℕ) {width : ℕ} {neighbours : List ℕ} {part : ℕ} (r : Row
 abbrev pub Continues : (ℕ → ℕ) → ℕ → ℕ → ℕ → ℕ → List ℕ → Type 0
 Continues N cap n rows rest l = (out : List ℕ) (more : ℕ) → Parts N cap n rest l out more → RanParts N cap n rows [] out
 
+-- how far the listing has come: the first count words of the list are the sets so far, and these rows are left
+pub record ListedParts (N : ℕ → ℕ) (cap n rows : ℕ) (found list : List ℕ) (rest count : ℕ) : Type 0 where
+  pub size : length list ≡ length found
+  pub few : count ≤ cap
+  pub within : Sub rest rows
+  pub continues : Continues N cap n rows rest (take count list)
+
 module _ (N : ℕ → ℕ) (cap n rows : ℕ) where
   pub continue-start : Continues N cap n rows rows []
   continue-start out more p = (more, p)

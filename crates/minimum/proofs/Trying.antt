@@ -4,7 +4,7 @@ use mathlib.Core.Path.{_≡_, sym, _∙_, ap, ap₂, subst}
 use mathlib.Core.Bool.{Bool, true, false, cond, not, _&&_, _||_}
 use mathlib.Core.Logic.{⊎-elim}
 use mathlib.Core.List.{List, []}
-use Prim.Native.Nat.{ℕ, _+_, _-_, _*_, _<_, _≤_}
+use Prim.Native.Nat.{ℕ, _+_, _-_, _*_, _^_, _<_, _≤_}
 use native.Mathlib.Nat.{eq-or-lt-of-le}
 use native.Mathlib.Omega.{arith}
 use lib.Bits.{bitAnd}
@@ -20,7 +20,7 @@ use Rattle.definitions.proofs.Lists.{member-get, member-at, any-of, any-none}
 use Rattle.definitions.proofs.Rows.{filled-cell, covers-at}
 use Rattle.definitions.proofs.Subsumption.{subsumes-is, subsumes-self}
 use Rattle.lists.proofs.Flat.{rows-length, rows-at, row-fits, part-row}
-use Rattle.bitsets.specs.Bits.{has, withoutLowest}
+use Rattle.bitsets.specs.Bits.{has, withoutLowest, wordBits}
 use Rattle.bitsets.proofs.Bits.{Lowest, has-none, rest-in, rest-of}
 use Rattle.bitsets.proofs.Words.{in-word}
 use Rattle.patterns.proofs.FilledRows.{filled-has}
@@ -45,6 +45,20 @@ module _ (width n : ℕ) (w : List ℕ) (k : ℕ) where
   pub record Remaining (rest : ℕ) : Type 0 where
     pub fuller : (i : ℕ) → has rest i ≡ true → (i < n) × (filled (row width n w k) < filled (row width n w i))
     pub all : (i : ℕ) → i < n → subsumes (row width n w i) (row width n w k) ≡ true → has rest i ≡ true
+
+  -- column by column: row j is tried from column c on, and no row is found yet, so that `looked` is still the count of all
+  pub record TryingColumns (j c : ℕ) (subsumed : Bool) (looked : ℕ) : Type 0 where
+    pub passed : c ≤ width
+    pub covered : CoveredTo j c
+    pub not-found : subsumed ≡ false
+    pub looked-all : looked ≡ n
+
+  -- candidate by candidate: the rest is left to try, and no row is found yet
+  pub record TryingRows (rest : ℕ) (subsumed : Bool) (looked : ℕ) : Type 0 where
+    pub fits : rest < 2 ^ wordBits
+    pub not-found : subsumed ≡ false
+    pub looked-all : looked ≡ n
+    pub remaining : Remaining rest
 
 three-cases {ℓ} : {X : Type ℓ} (k j : ℕ) → (k < j → X) → (j ≡ k → X) → (j < k → X) → X
 three-cases k j f g h =

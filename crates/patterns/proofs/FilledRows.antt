@@ -99,6 +99,13 @@ columns-none width h = record {
   words = λ c g. getD-replicate maxColumns c 0 0 (omega arith) ∙ sym (filled-none c);
 }
 
+-- how far the filling has come: the words hold the first j of n rows, and row j begins at `at`
+pub record FilledRows (width n : ℕ) (w found columns : List ℕ) (j at : ℕ) : Type 0 where
+  pub passed : j ≤ n
+  pub here : at ≡ j * width
+  pub size : length columns ≡ length found
+  pub filled-rows : ColumnsOf (rowsIn width j w) width columns
+
 -- n rows of c cells stand in w, and the row j, from at on, is the next
 pub columns-more : (c n j at : ℕ) (w : List ℕ) → n * c ≤ length w → j < n → at ≡ j * c → (found columns : List ℕ)
     → ColumnsOf (rowsIn c j w) c found → FilledRow (take (at + c - at) (drop at w)) j found columns → ColumnsOf (rowsIn c (j + 1) w) c columns

@@ -2,16 +2,15 @@
 -- Assumes nothing.
 use borrow.Author.Needs.{needs}
 use borrow.Author.Tests.{not-true, not-false}
-use Prim.Native.Nat.{ℕ, _+_, _-_, _*_, _^_, _<_, _≤_}
+use Prim.Native.Nat.{ℕ, _+_, _-_, _*_, _<_, _≤_}
 use mathlib.Core.Path.{_≡_, refl, _∙_}
-use mathlib.Core.Bool.{false}
 use mathlib.Core.Logic.{⊎-elim}
 use native.Mathlib.Omega.{arith}
 use lib.Bits.{and-le-r}
 use lib.Count.{trailingZeros, trailing-le}
 use lib.ListN.{length, getD}
 use Rattle.bitsets.proofs.Bits.{Lowest, trailing-lowest}
-use Rattle.minimum.proofs.Trying.{CoveredTo, Remaining, row-end, own-short, column-covered, column-differs, columns-covered}
+use Rattle.minimum.proofs.Trying.{TryingColumns, TryingRows, row-end, own-short, column-covered, column-differs, columns-covered}
 use Rattle.minimum.proofs.Trying.{left-all, next-within, left-next, tried-none, tried-found}
 use Rattle.minimum.proofs.trial.try_row.Statement.{statement}
 use Rattle.minimum.proofs.trial.try_row.Tie as tie
@@ -19,14 +18,14 @@ use Rattle.bitsets.specs.Bits.{wordBits}
 
 abbrev Inv-loop : tie.InvT-loop
 Inv-loop cells counts fuller columns width k own own-end count rest subsumed₀ looked₀ j at c₀ subsumed looked c =
-    (c ≤ width) × CoveredTo width (length counts) cells k j c × (subsumed ≡ false) × (looked ≡ length counts)
+    TryingColumns width (length counts) cells k j c subsumed looked
 
 abbrev μ-loop : tie.MeasureT-loop
 μ-loop cells counts fuller columns width k own own-end count rest subsumed₀ looked₀ j at c₀ subsumed looked c = width - c
 
 abbrev Inv-rows : tie.InvT-rows
 Inv-rows cells counts fuller columns width k own own-end count rest₀ subsumed₀ looked₀ rest subsumed looked =
-    (rest < 2 ^ wordBits) × (subsumed ≡ false) × (looked ≡ length counts) × Remaining width (length counts) cells k rest
+    TryingRows width (length counts) cells k rest subsumed looked
 
 abbrev μ-rows : tie.MeasureT-rows
 μ-rows cells counts fuller columns width k own own-end count rest₀ subsumed₀ looked₀ rest subsumed looked = rest
@@ -54,10 +53,10 @@ module _ (x : tie.In-rows Inv-loop μ-loop Inv-rows μ-rows) where
   next = trailingZeros wordBits (turn .rows .rest)
 
   lowest-of : Lowest (turn .rows .rest) next
-  lowest-of = trailing-lowest wordBits (turn .rows .rest) (x .rows-test .taken) (turn .rows .inv .0)
+  lowest-of = trailing-lowest wordBits (turn .rows .rest) (x .rows-test .taken) (turn .rows .inv .fits)
 
   in-range : next < length (start .args .counts .now)
-  in-range = next-within (start .pre .0) (start .pre .1) (turn .rows .inv .3) lowest-of
+  in-range = next-within (start .pre .0) (start .pre .1) (turn .rows .inv .remaining) lowest-of
 
   other-there : next * start .args .width + start .args .width ≤ length (start .args .cells .now)
   other-there = row-there start next in-range
@@ -102,12 +101,13 @@ for-row-requires c κs =
 
 rows-holds : tie.Need-rows-holds Inv-loop μ-loop Inv-rows μ-rows
 rows-holds c =
-    let q = c .before .before .before .before .before .before .before .before in (
-      search needs,
-      refl,
-      refl,
-      left-all (q .pre .0) (q .pre .1) (c .for-row .result) (q .args .k * q .args .width) refl (c .for-row .ensures),
-    )
+    let q = c .before .before .before .before .before .before .before .before in
+    record {
+      fits = search needs;
+      not-found = refl;
+      looked-all = refl;
+      remaining = left-all (q .pre .0) (q .pre .1) (c .for-row .result) (q .args .k * q .args .width) refl (c .for-row .ensures);
+    }
 
 cast-j : tie.Need-cast-j Inv-loop μ-loop Inv-rows μ-rows
 cast-j c = omega (arith, trailing-le wordBits (turn c .rows .rest))
@@ -116,7 +116,7 @@ mul-at : tie.Need-mul-at Inv-loop μ-loop Inv-rows μ-rows
 mul-at c = let e = other-there c in search needs
 
 loop-holds : tie.Need-loop-holds Inv-loop μ-loop Inv-rows μ-rows
-loop-holds c = (search needs, refl, turn c .rows .inv .1, turn c .rows .inv .2)
+loop-holds c = record { passed = search needs; covered = refl; not-found = turn c .rows .inv .not-found; looked-all = turn c .rows .inv .looked-all }
 
 add-looked : tie.Need-add-looked Inv-loop μ-loop Inv-rows μ-rows
 add-looked c = let e = in-range (c .before .before) in search needs
@@ -152,13 +152,14 @@ loop-again : tie.Need-loop-again Inv-loop μ-loop Inv-rows μ-rows
 loop-again c =
     let l = c .before .before .before .before .before in
     let x = l .before in
-    let q = start x in (
-      search needs,
-      column-covered (q .pre .0) (q .pre .1) (next x) (l .loop .c) (in-range x) (search needs) (l .loop .inv .1) (c .before .covered .ensures)
-          (not-false _ (c .if2 .left)),
-      l .loop .inv .2,
-      l .loop .inv .3,
-    )
+    let q = start x in
+    record {
+      passed = search needs;
+      covered = column-covered (q .pre .0) (q .pre .1) (next x) (l .loop .c) (in-range x) (search needs) (l .loop .inv .covered) (c .before .covered .ensures)
+          (not-false _ (c .if2 .left));
+      not-found = l .loop .inv .not-found;
+      looked-all = l .loop .inv .looked-all;
+    }
 
 sub-rest : tie.Need-sub-rest Inv-loop μ-loop Inv-rows μ-rows
 sub-rest c = search needs
@@ -175,13 +176,14 @@ rows-again c =
     let q = start x in
     let r = turn x .rows in
     let d =
-    column-differs (q .pre .0) (q .pre .1) (next x) (l .loop .c) (in-range x) (search needs) (l .loop .inv .1) (c .before .covered .ensures)
-    (not-true _ (c .if2 .taken)) in (
-      omega (arith, and-le-r (r .rest) (r .rest - 1), r .inv .0),
-      l .loop .inv .2,
-      l .loop .inv .3,
-      left-next (q .pre .0) (q .pre .1) (r .inv .3) (lowest-of x) d,
-    )
+    column-differs (q .pre .0) (q .pre .1) (next x) (l .loop .c) (in-range x) (search needs) (l .loop .inv .covered) (c .before .covered .ensures)
+    (not-true _ (c .if2 .taken)) in
+    record {
+      fits = omega (arith, and-le-r (r .rest) (r .rest - 1), r .inv .fits);
+      not-found = l .loop .inv .not-found;
+      looked-all = l .loop .inv .looked-all;
+      remaining = left-next (q .pre .0) (q .pre .1) (r .inv .remaining) (lowest-of x) d;
+    }
 
 others-requires : tie.Need-others-requires Inv-loop μ-loop Inv-rows μ-rows
 others-requires c κs = search needs
@@ -192,10 +194,10 @@ returns c =
     let q = c .before .before .before .before .before .before .before .before .before .before .before in
     let j = trailingZeros wordBits (l .rest) in
     ⊎-elim
-    (λ w. tried-none (q .pre .0) (q .pre .1) (l .inv .3) (c .others .ensures) (w .0 .left) (w .1 ∙ l .inv .1) (w .2 ∙ l .inv .2))
+    (λ w. tried-none (q .pre .0) (q .pre .1) (l .inv .remaining) (c .others .ensures) (w .0 .left) (w .1 ∙ l .inv .not-found) (w .2 ∙ l .inv .looked-all))
     (λ w.
-    let d = columns-covered (q .pre .0) (q .pre .1) j (w .1 .c) (omega (arith, w .2 .taken)) (w .1 .inv .1) in
-    tried-found (q .pre .0) (q .pre .1) (l .inv .3) (c .others .ensures) j (trailing-lowest wordBits (l .rest) (w .0 .taken) (l .inv .0)) d (w .3) (w .4))
+    let d = columns-covered (q .pre .0) (q .pre .1) j (w .1 .c) (omega (arith, w .2 .taken)) (w .1 .inv .covered) in
+    tried-found (q .pre .0) (q .pre .1) (l .inv .remaining) (c .others .ensures) j (trailing-lowest wordBits (l .rest) (w .0 .taken) (l .inv .fits)) d (w .3) (w .4))
     (c .before .rows-test .came)
 
 pub try-row-spec : {M : Type 1} → statement M
