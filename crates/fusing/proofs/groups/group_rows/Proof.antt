@@ -153,13 +153,12 @@ loop-again c =
     let k = c .before in
     let i = k .before .before in
     let l = turn i .loop in
-    let v = l .inv in
     record {
-      fits = omega (arith, rest-small i, v .fits);
-      leader-words = length-set (l .leaders) (row i) _ ∙ v .leader-words;
-      equal-words = length-set (l .equal) (row i) _ ∙ v .equal-words;
-      bucket-words = length-set (l .buckets) _ _ ∙ v .bucket-words;
-      grouping = group-new (v .grouping) (lowest-of i) (small i) (space i) (k .leader .result) (k .leader .ensures) (c .if1 .taken) (room i) (v .bucket-words);
+      fits = omega (arith, rest-small i, l .inv .fits);
+      leader-words = length-set (l .leaders) (row i) _ ∙ l .inv .leader-words;
+      equal-words = length-set (l .equal) (row i) _ ∙ l .inv .equal-words;
+      bucket-words = length-set (l .buckets) _ _ ∙ l .inv .bucket-words;
+      grouping = group-new (l .inv .grouping) (lowest-of i) (small i) (space i) (k .leader .result) (k .leader .ensures) (c .if1 .taken) (room i) (l .inv .bucket-words);
     }
 
 mul-equal-2 : tie.Need-mul-equal-2 Inv-loop μ-loop
@@ -188,13 +187,12 @@ loop-again-2 c =
     let k = c .before .before in
     let i = k .before .before in
     let l = turn i .loop in
-    let v = l .inv in
     record {
-      fits = omega (arith, rest-small i, v .fits);
-      leader-words = length-set (l .leaders) (row i) _ ∙ v .leader-words;
-      equal-words = length-set (l .equal) _ _ ∙ v .equal-words;
-      bucket-words = v .bucket-words;
-      grouping = group-more (v .grouping) (lowest-of i) (small i) (space i) (k .leader .result) (k .leader .ensures) (c .before .if1 .left) (led-room (c .before));
+      fits = omega (arith, rest-small i, l .inv .fits);
+      leader-words = length-set (l .leaders) (row i) _ ∙ l .inv .leader-words;
+      equal-words = length-set (l .equal) _ _ ∙ l .inv .equal-words;
+      bucket-words = l .inv .bucket-words;
+      grouping = group-more (l .inv .grouping) (lowest-of i) (small i) (space i) (k .leader .result) (k .leader .ensures) (c .before .if1 .left) (led-room (c .before));
     }
 
 same-length : tie.Need-same-length Inv-loop μ-loop
