@@ -143,7 +143,7 @@ abbrev pub PassedTo : List ℕ → List ℕ → ℕ → ℕ → ℕ → ℕ → 
 PassedTo row columns i shared above within =
     (rows : List (List ℕ)) → Seen rows (length row) columns → (k : ℕ) → k < length rows → Passed row (getD rows k []) k i shared above within
 
--- they are among all, and the words that begin full fit a word
+-- the loop over the columns: i are passed, and the two words that are inverted at the end fit a word
 pub record PassedColumns (row columns : List ℕ) (shared above within i : ℕ) : Type 0 where
   pub in-row : i ≤ length row
   pub above-fits : above < 2 ^ wordBits
@@ -186,7 +186,7 @@ rows-seen c n w columns few fits o = record {
 abbrev pub CrossingTo : List (List ℕ) → List ℕ → ℕ → Type 0
 CrossingTo rows neighbours j = (i : ℕ) → i < j → CrossingOf rows (getD rows i []) (getD neighbours i 0)
 
--- they are among all, the next one begins at at, and the list keeps its length
+-- the loop over the rows: the row j begins at at, the list keeps its length, and the words of the rows before are written
 pub record CrossedRows (width n : ℕ) (cells found neighbours : List ℕ) (j at : ℕ) : Type 0 where
   pub few : j ≤ n
   pub here : at ≡ j * width
