@@ -143,6 +143,13 @@ abbrev pub PassedTo : List ℕ → List ℕ → ℕ → ℕ → ℕ → ℕ → 
 PassedTo row columns i shared above within =
     (rows : List (List ℕ)) → Seen rows (length row) columns → (k : ℕ) → k < length rows → Passed row (getD rows k []) k i shared above within
 
+-- the loop over the columns: i are passed, and the two words that are inverted at the end fit a word
+pub record PassedColumns (row columns : List ℕ) (shared above within i : ℕ) : Type 0 where
+  pub in-row : i ≤ length row
+  pub above-fits : above < 2 ^ wordBits
+  pub within-fits : within < 2 ^ wordBits
+  pub passed : PassedTo row columns i shared above within
+
 module _ (row columns : List ℕ) where
   pub passed-start : PassedTo row columns 0 0 18446744073709551615 18446744073709551615
   passed-start rows seen k h = passed-none row (getD rows k []) k (sym (seen .wide k h)) (omega (arith, seen .few))
@@ -178,6 +185,13 @@ rows-seen c n w columns few fits o = record {
 -- the words of the first j rows hold the rows that cross them
 abbrev pub CrossingTo : List (List ℕ) → List ℕ → ℕ → Type 0
 CrossingTo rows neighbours j = (i : ℕ) → i < j → CrossingOf rows (getD rows i []) (getD neighbours i 0)
+
+-- the loop over the rows: the row j begins at at, the list keeps its length, and the words of the rows before are written
+pub record CrossedRows (width n : ℕ) (cells found neighbours : List ℕ) (j at : ℕ) : Type 0 where
+  pub few : j ≤ n
+  pub here : at ≡ j * width
+  pub size : length neighbours ≡ length found
+  pub crossed : CrossingTo (rowsIn width n cells) neighbours j
 
 -- n rows of c cells stand in w, and the row j, from at on, is the next
 pub crossing-turn : (c n j at : ℕ) (w columns neighbours : List ℕ) (set : ℕ) → Seen (rowsIn c n w) c columns → n * c ≤ length w → j < n → at ≡ j * c

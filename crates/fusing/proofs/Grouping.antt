@@ -69,6 +69,14 @@ pub record Grouping (cell : ℕ → ℕ) (filled rest : ℕ) (buckets leaders eq
   pub group : (k i : ℕ) → leads cell buckets k ≡ true → has (getD equal k 0) i ≡ (passed filled rest i && eqb (cell k) (cell i))
   pub led : (i : ℕ) → passed filled rest i ≡ true → (leads cell buckets (getD leaders i 0) ≡ true) × (cell (getD leaders i 0) ≡ cell i)
 
+-- the loop over the rows: the rest fits a word, the lists keep their lengths, and the rows that are passed are grouped
+pub record Grouped (cell : ℕ → ℕ) (filled : ℕ) (foundLeaders foundEqual leaders equal buckets : List ℕ) (rest : ℕ) : Type 0 where
+  pub fits : rest < 2 ^ wordBits
+  pub leader-words : length leaders ≡ length foundLeaders
+  pub equal-words : length equal ≡ length foundEqual
+  pub bucket-words : length buckets ≡ bucketCount
+  pub grouping : Grouping cell filled rest buckets leaders equal
+
 digit-small : (x : ℕ) → x % bucketCount < bucketCount
 digit-small x = omega arith
 

@@ -95,6 +95,14 @@ abbrev pub NarrowedTo : List (List ℕ) → List ℕ → ℕ → List ℕ → Ty
 NarrowedTo rows found c now =
     (j k : ℕ) → j < length rows → k < length rows → AgreesFrom (getD rows j []) (getD rows k []) (adjacent found j k) c (adjacent now j k)
 
+-- the loop over the columns: c are passed, the lists keep their lengths, and the words hold what the columns leave
+pub record NarrowedColumns (width n : ℕ) (cells found leaders equal now : List ℕ) (c : ℕ) : Type 0 where
+  pub within : c ≤ width
+  pub leader-words : length leaders ≡ maxUnionRows
+  pub equal-words : length equal ≡ maxUnionRows
+  pub size : length now ≡ length found
+  pub narrowed : NarrowedTo (rowsIn width n cells) found c now
+
 pub narrowed-none : (rows : List (List ℕ)) (found : List ℕ) → NarrowedTo rows found 0 found
 narrowed-none rows found j k h g = refl
 

@@ -6,7 +6,7 @@ use lib.ListN.{length, getD, take, drop}
 use Rattle.definitions.specs.Limits.{maxSets}
 use Rattle.definitions.specs.Lists.{findIndex}
 use Rattle.definitions.specs.ComplementUnion.{sameRow}
-use Rattle.rows.specs.Indices.{Ordered}
+use Rattle.rows.specs.Indices.{Below, Ordered}
 
 -- the positions of rows in a table
 unfoldable pub positionsIn : List (List ℕ) → List (List ℕ) → List ℕ
@@ -24,6 +24,13 @@ pub record OwnPositions (order : List ℕ) (m count : ℕ) (found positions : Li
   pub size : length positions ≡ length found
   pub named : (i : ℕ) → i < count → (getD positions i 0 ≡ m → ⊥) → (getD positions i 0 < m) × (getD order (getD positions i 0) 0 ≡ i)
   pub rest : drop count positions ≡ drop count found
+
+-- m indices, each of one of count rows, and room for the position of each row
+pub record RowIndices (order : List ℕ) (m count : ℕ) (positions : List ℕ) : Type 0 where
+  pub few : m ≤ maxSets
+  pub within : m ≤ length order
+  pub below : Below count (take m order)
+  pub room : count ≤ length positions
 
 -- count rows of so many cells, and m indices that name the distinct ones in ascending order
 pub record DistinctRows (cells : List ℕ) (width count : ℕ) (order : List ℕ) (m : ℕ) : Type 0 where

@@ -5,8 +5,8 @@ ghost use Prim.Native.Nat.{_≤_};
 ghost use lib.ListN.{length, take, drop};
 ghost use Rattle.definitions.specs.Limits.{maxSets};
 ghost use Rattle.definitions.specs.Image.{rowsIn};
-ghost use Rattle.rows.specs.Indices.{rowsAt, Below};
-ghost use Rattle.fusing.specs.Positions.{positionsIn, Cleared, OwnPositions, DistinctRows};
+ghost use Rattle.rows.specs.Indices.{rowsAt};
+ghost use Rattle.fusing.specs.Positions.{positionsIn, Cleared, OwnPositions, RowIndices, DistinctRows};
 use rows::position_of;
 
 // Writes m, which is no position, for each of the first count rows.
@@ -23,8 +23,7 @@ fn clear_positions(m: usize, count: usize, positions: &mut [u32])
 
 // Writes the position of each row whose own index is one of the first m, and m for the others of the first count rows.
 fn fill_own(order: &[u32], m: usize, count: usize, positions: &mut [u32])
-    requires { ⌜ (m ≤ maxSets) × (m ≤ length (now order)) × Below count (take m (now order))
-        × (count ≤ length (now positions)) ⌝ }
+    requires { ⌜ RowIndices (now order) m count (now positions) ⌝ }
     ensures { λ r. ⌜ OwnPositions (now (order .entry)) m count (now (positions .entry)) (now (positions .exit)) ⌝ }
 {
     clear_positions(m, count, positions);

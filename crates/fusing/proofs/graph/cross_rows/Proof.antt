@@ -5,16 +5,15 @@ use Prim.Native.Nat.{_+_, _-_, _*_, _≤_}
 use native.Mathlib.Nat.{zero-mul, add-mul, one-mul}
 use native.Mathlib.Omega.{arith}
 use lib.ListN.{length, length-set}
-use Rattle.definitions.specs.Image.{rowsIn}
 use Rattle.lists.proofs.Flat.{rows-length, row-fits}
 use Rattle.patterns.proofs.Parts.{part-length}
-use Rattle.fusing.proofs.Crossing.{rows-seen, CrossingTo, crossing-turn}
+use Rattle.fusing.proofs.Crossing.{rows-seen, CrossedRows, crossing-turn}
 use Rattle.fusing.proofs.graph.cross_rows.Statement.{statement}
 use Rattle.fusing.proofs.graph.cross_rows.Tie as tie
 
 abbrev Inv-loop : tie.InvT-loop
 Inv-loop cells n width columns neighbours₀ j₀ at₀ neighbours j at =
-    (j ≤ n) × (at ≡ j * width) × (length neighbours ≡ length neighbours₀) × CrossingTo (rowsIn width n cells) neighbours j
+    CrossedRows width n cells neighbours₀ neighbours j at
 
 abbrev μ-loop : tie.MeasureT-loop
 μ-loop cells n width columns neighbours₀ j₀ at₀ neighbours j at = n - j
@@ -29,14 +28,16 @@ module _ (c : tie.In-loop Inv-loop μ-loop) where
 
   -- the next row is within the cells
   row-within : turn .loop .at + start .args .width ≤ length (start .args .cells .now)
-  row-within = omega (arith, turn .loop .inv .1, start .pre .0 .fits, row-fits (start .args .width) (start .args .n) (turn .loop .j) (c .loop-test .taken))
+  row-within = omega (arith, turn .loop .inv .here, start .pre .0 .fits, row-fits (start .args .width) (start .args .n) (turn .loop .j) (c .loop-test .taken))
 
   -- and the row after it begins a row's width on
   next-at : turn .loop .at + start .args .width ≡ (turn .loop .j + 1) * start .args .width
-  next-at = omega (arith, turn .loop .inv .1, add-mul (turn .loop .j) 1 (start .args .width), one-mul (start .args .width))
+  next-at = omega (arith, turn .loop .inv .here, add-mul (turn .loop .j) 1 (start .args .width), one-mul (start .args .width))
 
 loop-holds : tie.Need-loop-holds Inv-loop μ-loop
-loop-holds c = let a = c .before .before .before .args in (search needs, sym (zero-mul (a .width)), refl, λ i h. absurd (omega arith))
+loop-holds c =
+    let a = c .before .before .before .args in
+    record { few = search needs; here = sym (zero-mul (a .width)); size = refl; crossed = λ i h. absurd (omega arith) }
 
 add-next : tie.Need-add-next Inv-loop μ-loop
 add-next c = let w = row-within c in search needs
@@ -59,14 +60,14 @@ crossing-requires c κs =
     let l = turn i .loop in
     let q = start i in
     let s = q .args in
-    let long = part-length (s .width) (s .n) (l .j) (s .cells .now) (q .pre .0 .fits) (i .loop-test .taken) (l .at) (l .inv .1) in
+    let long = part-length (s .width) (s .n) (l .j) (s .cells .now) (q .pre .0 .fits) (i .loop-test .taken) (l .at) (l .inv .here) in
     omega (arith, long, q .pre .0 .filled .size)
 
 mul-neighbours : tie.Need-mul-neighbours Inv-loop μ-loop
-mul-neighbours c = let i = c .before .before in omega (arith, turn i .loop .inv .2, start i .pre .1)
+mul-neighbours c = let i = c .before .before in omega (arith, turn i .loop .inv .size, start i .pre .1)
 
 slice-write-neighbours : tie.Need-slice-write-neighbours Inv-loop μ-loop
-slice-write-neighbours c = let i = c .before .before in omega (arith, turn i .loop .inv .2, start i .pre .1)
+slice-write-neighbours c = let i = c .before .before in omega (arith, turn i .loop .inv .size, start i .pre .1)
 
 add-j : tie.Need-add-j Inv-loop μ-loop
 add-j c = search needs
@@ -81,22 +82,23 @@ loop-again c =
     let l = turn i .loop in
     let q = start i in
     let s = q .args in
-    let seen = rows-seen (s .width) (s .n) (s .cells .now) (s .columns .now) (q .pre .0 .few) (q .pre .0 .fits) (q .pre .0 .filled) in (
-      omega arith,
-      next-at i,
-      length-set (l .neighbours) (l .j) (f .result) ∙ l .inv .2,
-      crossing-turn (s .width) (s .n) (l .j) (l .at) (s .cells .now) (s .columns .now) (l .neighbours) (f .result) seen
-          (q .pre .0 .fits) (i .loop-test .taken) (l .inv .1) (omega (arith, l .inv .2, q .pre .1)) (f .ensures) (l .inv .3),
-    )
+    let seen = rows-seen (s .width) (s .n) (s .cells .now) (s .columns .now) (q .pre .0 .few) (q .pre .0 .fits) (q .pre .0 .filled) in
+    record {
+      few = omega arith;
+      here = next-at i;
+      size = length-set (l .neighbours) (l .j) (f .result) ∙ l .inv .size;
+      crossed = crossing-turn (s .width) (s .n) (l .j) (l .at) (s .cells .now) (s .columns .now) (l .neighbours) (f .result) seen
+          (q .pre .0 .fits) (i .loop-test .taken) (l .inv .here) (omega (arith, l .inv .size, q .pre .1)) (f .ensures) (l .inv .crossed);
+    }
 
 same-length : tie.Need-same-length Inv-loop μ-loop
-same-length c = c .before .loop .inv .2
+same-length c = c .before .loop .inv .size
 
 returns : tie.Need-returns Inv-loop μ-loop
 returns c =
     let a = c .before .before .before .before .before .args in
     let l = c .before .loop in
-    record { each = λ j h. l .inv .3 j (omega (arith, rows-length (a .width) (a .n) (a .cells .now))) }
+    record { each = λ j h. l .inv .crossed j (omega (arith, rows-length (a .width) (a .n) (a .cells .now))) }
 
 pub cross-rows-spec : {M : Type 1} → statement M
 cross-rows-spec =

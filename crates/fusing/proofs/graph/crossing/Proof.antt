@@ -1,24 +1,31 @@
 -- `crossing` meets its contract. The loop's invariant: the words hold of each row what the first c columns say.
 use borrow.Author.Needs.{needs}
 use mathlib.Core.Path.{refl}
-use Prim.Native.Nat.{_-_, _^_, _<_, _≤_}
+use Prim.Native.Nat.{_-_, _^_}
 use native.Mathlib.Omega.{arith}
 use lib.Bits.{bitAnd, bitOr, and-le-l}
 use lib.ListN.{length, getD}
 use Rattle.bitsets.specs.Bits.{wordBits}
-use Rattle.fusing.proofs.Crossing.{PassedTo, passed-start, passed-turn, passed-end}
+use Rattle.fusing.proofs.Crossing.{PassedColumns, passed-start, passed-turn, passed-end}
 use Rattle.fusing.proofs.graph.crossing.Statement.{statement}
 use Rattle.fusing.proofs.graph.crossing.Tie as tie
 
 abbrev Inv-loop : tie.InvT-loop
 Inv-loop row columns shared₀ above₀ within₀ c₀ shared above within c =
-    (c ≤ length row) × (above < 2 ^ wordBits) × (within < 2 ^ wordBits) × PassedTo row columns c shared above within
+    PassedColumns row columns shared above within c
 
 abbrev μ-loop : tie.MeasureT-loop
 μ-loop row columns shared₀ above₀ within₀ c₀ shared above within c = length row - c
 
 loop-holds : tie.Need-loop-holds Inv-loop μ-loop
-loop-holds c = let a = c .before .before .args in (search needs, search needs, search needs, passed-start (a .row .now) (a .columns .now))
+loop-holds c =
+    let a = c .before .before .args in
+    record {
+      in-row = search needs;
+      above-fits = search needs;
+      within-fits = search needs;
+      passed = passed-start (a .row .now) (a .columns .now);
+    }
 
 mul-filled : tie.Need-mul-filled Inv-loop μ-loop
 mul-filled c = search needs
@@ -46,19 +53,20 @@ loop-again c =
     let a = c .before .before .before .before .before .before .before .args in
     let l = c .before .before .before .before .loop in
     let f = getD (a .columns .now) (l .c) 0 in
-    let e = c .blank .result in (
-      search needs,
-      omega (arith, and-le-l (l .above) (bitOr f e), l .inv .1),
-      omega (arith, and-le-l (l .within) (2 ^ wordBits - 1 - bitAnd f e), l .inv .2),
-      passed-turn (a .row .now) (a .columns .now) (l .c) (l .shared) (l .above) (l .within) f e (search needs)
-          (omega (arith, c .before .before .shared-slice-known3 .given (l .c))) refl (c .blank .ensures) (l .inv .3),
-    )
+    let e = c .blank .result in
+    record {
+      in-row = search needs;
+      above-fits = omega (arith, and-le-l (l .above) (bitOr f e), l .inv .above-fits);
+      within-fits = omega (arith, and-le-l (l .within) (2 ^ wordBits - 1 - bitAnd f e), l .inv .within-fits);
+      passed = passed-turn (a .row .now) (a .columns .now) (l .c) (l .shared) (l .above) (l .within) f e (search needs)
+          (omega (arith, c .before .before .shared-slice-known3 .given (l .c))) refl (c .blank .ensures) (l .inv .passed);
+    }
 
 returns : tie.Need-returns Inv-loop μ-loop
 returns c =
     let a = c .before .before .before .before .args in
     let l = c .before .loop in
-    passed-end (a .row .now) (a .columns .now) (l .c) (l .shared) (l .above) (l .within) (search needs) (l .inv .1) (l .inv .2) (l .inv .3)
+    passed-end (a .row .now) (a .columns .now) (l .c) (l .shared) (l .above) (l .within) (search needs) (l .inv .above-fits) (l .inv .within-fits) (l .inv .passed)
 
 pub crossing-spec : {M : Type 1} → statement M
 crossing-spec =

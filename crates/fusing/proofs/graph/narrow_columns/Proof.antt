@@ -2,23 +2,21 @@
 use borrow.Author.Needs.{needs}
 use mathlib.Core.Path.{_≡_, refl, sym, _∙_, ap}
 use mathlib.Core.Bool.{true}
-use Prim.Native.Nat.{ℕ, _-_, _≤_, _<_}
+use Prim.Native.Nat.{ℕ, _-_, _<_}
 use native.Mathlib.Omega.{arith}
-use lib.ListN.{length, getD}
-use Rattle.definitions.specs.Limits.{maxUnionRows}
+use lib.ListN.{getD}
 use Rattle.definitions.specs.Image.{rowsIn}
 use Rattle.lists.proofs.Flat.{rows-length}
 use Rattle.bitsets.specs.Bits.{has}
 use Rattle.patterns.proofs.FilledRows.{filled-within}
 use Rattle.fusing.proofs.FilledRows.{columns-within}
-use Rattle.fusing.proofs.Narrowing.{NarrowedTo, narrowed-none, narrowed-turn, narrowed-end}
+use Rattle.fusing.proofs.Narrowing.{NarrowedColumns, narrowed-none, narrowed-turn, narrowed-end}
 use Rattle.fusing.proofs.graph.narrow_columns.Statement.{statement}
 use Rattle.fusing.proofs.graph.narrow_columns.Tie as tie
 
 abbrev Inv-loop : tie.InvT-loop
 Inv-loop cells n width columns neighbours₀ leaders₀ equal₀ c₀ neighbours leaders equal c =
-    (c ≤ width) × (length leaders ≡ maxUnionRows) × (length equal ≡ maxUnionRows) × (length neighbours ≡ length neighbours₀)
-    × NarrowedTo (rowsIn width n cells) neighbours₀ c neighbours
+    NarrowedColumns width n cells neighbours₀ leaders equal neighbours c
 
 abbrev μ-loop : tie.MeasureT-loop
 μ-loop cells n width columns neighbours₀ leaders₀ equal₀ c₀ neighbours leaders equal c = width - c
@@ -45,7 +43,13 @@ module _ (c : tie.In-loop Inv-loop μ-loop) where
 loop-holds : tie.Need-loop-holds Inv-loop μ-loop
 loop-holds c =
     let s = c .before .before .before .args in
-    (search needs, search needs, search needs, refl, narrowed-none (rowsIn (s .width) (s .n) (s .cells .now)) (s .neighbours .now))
+    record {
+      within = search needs;
+      leader-words = search needs;
+      equal-words = search needs;
+      size = refl;
+      narrowed = narrowed-none (rowsIn (s .width) (s .n) (s .cells .now)) (s .neighbours .now);
+    }
 
 mul-filled : tie.Need-mul-filled Inv-loop μ-loop
 mul-filled c = omega (arith, start c .pre .0 .filled .size)
@@ -66,8 +70,8 @@ group-rows-requires c κs =
     let q = start i in
     let s = q .args in (
       columns-within (s .width) (s .n) (s .cells .now) (s .columns .now) (q .pre .0 .fits) (q .pre .0 .filled) (l .c) (i .loop-test .taken),
-      λ k h. omega (arith, below i k h, l .inv .1, q .pre .0 .few),
-      λ k h. omega (arith, below i k h, l .inv .2, q .pre .0 .few),
+      λ k h. omega (arith, below i k h, l .inv .leader-words, q .pre .0 .few),
+      λ k h. omega (arith, below i k h, l .inv .equal-words, q .pre .0 .few),
     )
 
 slice-aggregate-narrow-rows : tie.Need-slice-aggregate-narrow-rows Inv-loop μ-loop
@@ -83,8 +87,8 @@ narrow-rows-requires c κs =
     let l = turn i .loop in
     let q = start i in (
       g .group-rows .ensures .led,
-      λ k h. omega (arith, below i k h, g .group-rows .kept .1 .1 .1 .1 .0, l .inv .1, q .pre .0 .few),
-      λ k h. omega (arith, below i k h, l .inv .3, q .pre .1),
+      λ k h. omega (arith, below i k h, g .group-rows .kept .1 .1 .1 .1 .0, l .inv .leader-words, q .pre .0 .few),
+      λ k h. omega (arith, below i k h, l .inv .size, q .pre .1),
     )
 
 add-c : tie.Need-add-c Inv-loop μ-loop
@@ -100,17 +104,18 @@ loop-again c =
     let i = g .before .before .before .before in
     let l = turn i .loop in
     let q = start i in
-    let s = q .args in (
-      search needs,
-      g .group-rows .kept .1 .1 .1 .1 .0 ∙ l .inv .1,
-      g .group-rows .kept .1 .1 .1 .1 .1 .0 ∙ l .inv .2,
-      n .narrow-rows .kept .1 .1 .1 .0 ∙ l .inv .3,
-      narrowed-turn (s .width) (s .n) (s .cells .now) (s .columns .now) (s .neighbours .now) (q .pre .0 .few) (q .pre .0 .fits) (q .pre .0 .filled)
-          (l .c) _ _ _ (l .neighbours) _ (i .loop-test .taken) refl (g .group-rows .ensures) (n .narrow-rows .ensures) (l .inv .4),
-    )
+    let s = q .args in
+    record {
+      within = search needs;
+      leader-words = g .group-rows .kept .1 .1 .1 .1 .0 ∙ l .inv .leader-words;
+      equal-words = g .group-rows .kept .1 .1 .1 .1 .1 .0 ∙ l .inv .equal-words;
+      size = n .narrow-rows .kept .1 .1 .1 .0 ∙ l .inv .size;
+      narrowed = narrowed-turn (s .width) (s .n) (s .cells .now) (s .columns .now) (s .neighbours .now) (q .pre .0 .few) (q .pre .0 .fits) (q .pre .0 .filled)
+          (l .c) _ _ _ (l .neighbours) _ (i .loop-test .taken) refl (g .group-rows .ensures) (n .narrow-rows .ensures) (l .inv .narrowed);
+    }
 
 same-length : tie.Need-same-length Inv-loop μ-loop
-same-length c = c .before .loop .inv .3
+same-length c = c .before .loop .inv .size
 
 returns : tie.Need-returns Inv-loop μ-loop
 returns c =
@@ -118,7 +123,7 @@ returns c =
     let q = c .before .before .before .before .before in
     let s = q .args in
     narrowed-end (s .width) (s .n) (s .cells .now) (s .columns .now) (s .neighbours .now) (q .pre .0 .few) (q .pre .0 .fits) (q .pre .0 .filled)
-    (l .c) (l .neighbours) (search needs) (l .inv .4)
+    (l .c) (l .neighbours) (search needs) (l .inv .narrowed)
 
 pub narrow-columns-spec : {M : Type 1} → statement M
 narrow-columns-spec =

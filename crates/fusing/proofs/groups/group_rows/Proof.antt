@@ -2,7 +2,7 @@
 use borrow.Author.Needs.{needs}
 use mathlib.Core.Path.{_≡_, refl, _∙_}
 use mathlib.Core.Bool.{true}
-use Prim.Native.Nat.{ℕ, _+_, _-_, _*_, _%_, _^_, _<_}
+use Prim.Native.Nat.{ℕ, _+_, _-_, _*_, _%_, _<_}
 use native.Mathlib.Omega.{arith}
 use lib.Bits.{and-le-r, bitAnd}
 use lib.Count.{trailingZeros, trailing-le}
@@ -10,14 +10,13 @@ use lib.ListN.{length, length-set, getD}
 use Rattle.bitsets.specs.Bits.{wordBits, has}
 use Rattle.bitsets.proofs.Bits.{Lowest, trailing-lowest, digit-below}
 use Rattle.fusing.specs.Groups.{bucketCount, cellAt}
-use Rattle.fusing.proofs.Grouping.{Grouping, group-start, bucket-filled, next-outside, group-new, group-more, group-end}
+use Rattle.fusing.proofs.Grouping.{Grouped, group-start, bucket-filled, next-outside, group-new, group-more, group-end}
 use Rattle.fusing.proofs.groups.group_rows.Statement.{statement}
 use Rattle.fusing.proofs.groups.group_rows.Tie as tie
 
 abbrev Inv-loop : tie.InvT-loop
 Inv-loop cells width c filled leaders₀ equal₀ buckets₀ rest₀ leaders equal buckets rest =
-    (rest < 2 ^ wordBits) × (length leaders ≡ length leaders₀) × (length equal ≡ length equal₀) × (length buckets ≡ bucketCount)
-    × Grouping (cellAt width cells c) filled rest buckets leaders equal
+    Grouped (cellAt width cells c) filled leaders₀ equal₀ leaders equal buckets rest
 
 abbrev μ-loop : tie.MeasureT-loop
 μ-loop cells width c filled leaders₀ equal₀ buckets₀ rest₀ leaders equal buckets rest = rest
@@ -39,29 +38,29 @@ module _ (c : tie.In-loop Inv-loop μ-loop) where
 
   -- the row is the lowest of the rest, and one of the column
   lowest-of : Lowest (turn .loop .rest) row
-  lowest-of = trailing-lowest wordBits (turn .loop .rest) (c .loop-test .taken) (turn .loop .inv .0)
+  lowest-of = trailing-lowest wordBits (turn .loop .rest) (c .loop-test .taken) (turn .loop .inv .fits)
 
   small : row < wordBits
-  small = digit-below wordBits (turn .loop .rest) row (turn .loop .inv .0) (lowest-of .there)
+  small = digit-below wordBits (turn .loop .rest) row (turn .loop .inv .fits) (lowest-of .there)
 
   filled-row : has (start .args .filled) row ≡ true
-  filled-row = turn .loop .inv .4 .among row (lowest-of .there)
+  filled-row = turn .loop .inv .grouping .among row (lowest-of .there)
 
   -- its cell, its leader and its word are there
   within : row * start .args .width + start .args .c < length (start .args .cells .now)
   within = start .pre .0 row filled-row
 
   space : row < length (turn .loop .leaders)
-  space = omega (arith, start .pre .1 row filled-row, turn .loop .inv .1)
+  space = omega (arith, start .pre .1 row filled-row, turn .loop .inv .leader-words)
 
   room : row < length (turn .loop .equal)
-  room = omega (arith, start .pre .2 row filled-row, turn .loop .inv .2)
+  room = omega (arith, start .pre .2 row filled-row, turn .loop .inv .equal-words)
 
   -- and so is the word of another row that may lead it
   bucket-room : (k : ℕ) → has (getD (turn .loop .buckets) (cell row % bucketCount) 0) k ≡ true → k < length (turn .loop .equal)
   bucket-room k m =
-      let filled = bucket-filled (turn .loop .inv .4) lowest-of (cell row % bucketCount) k (omega arith) m in
-      omega (arith, start .pre .2 k filled, turn .loop .inv .2)
+      let filled = bucket-filled (turn .loop .inv .grouping) lowest-of (cell row % bucketCount) k (omega arith) m in
+      omega (arith, start .pre .2 k filled, turn .loop .inv .equal-words)
 
   -- the rest gets smaller
   rest-small : bitAnd (turn .loop .rest) (turn .loop .rest - 1) < turn .loop .rest
@@ -73,7 +72,13 @@ led-room c = bucket-room (c .before .before .before) (c .before .leader .result)
 loop-holds : tie.Need-loop-holds Inv-loop μ-loop
 loop-holds c =
     let a = c .before .before .before .args in
-    (search needs, refl, refl, search needs, group-start (cellAt (a .width) (a .cells .now) (a .c)) (a .filled) (a .leaders .now) (a .equal .now))
+    record {
+      fits = search needs;
+      leader-words = refl;
+      equal-words = refl;
+      bucket-words = search needs;
+      grouping = group-start (cellAt (a .width) (a .cells .now) (a .c)) (a .filled) (a .leaders .now) (a .equal .now);
+    }
 
 cast-j : tie.Need-cast-j Inv-loop μ-loop
 cast-j c = omega (arith, trailing-le wordBits (c .before .loop .rest))
@@ -103,8 +108,8 @@ leader-requires : tie.Need-leader-requires Inv-loop μ-loop
 leader-requires c κs =
     let i = c .before in
     let d = cell i (row i) % bucketCount in (
-      λ k m. start i .pre .0 k (bucket-filled (turn i .loop .inv .4) (lowest-of i) d k (omega arith) m),
-      next-outside (turn i .loop .inv .4) (lowest-of i) d (omega arith),
+      λ k m. start i .pre .0 k (bucket-filled (turn i .loop .inv .grouping) (lowest-of i) d k (omega arith) m),
+      next-outside (turn i .loop .inv .grouping) (lowest-of i) d (omega arith),
     )
 
 mul-leaders : tie.Need-mul-leaders Inv-loop μ-loop
@@ -147,13 +152,14 @@ loop-again : tie.Need-loop-again Inv-loop μ-loop
 loop-again c =
     let k = c .before in
     let i = k .before .before in
-    let l = turn i .loop in (
-      omega (arith, rest-small i, l .inv .0),
-      length-set (l .leaders) (row i) _ ∙ l .inv .1,
-      length-set (l .equal) (row i) _ ∙ l .inv .2,
-      length-set (l .buckets) _ _ ∙ l .inv .3,
-      group-new (l .inv .4) (lowest-of i) (small i) (space i) (k .leader .result) (k .leader .ensures) (c .if1 .taken) (room i) (l .inv .3),
-    )
+    let l = turn i .loop in
+    record {
+      fits = omega (arith, rest-small i, l .inv .fits);
+      leader-words = length-set (l .leaders) (row i) _ ∙ l .inv .leader-words;
+      equal-words = length-set (l .equal) (row i) _ ∙ l .inv .equal-words;
+      bucket-words = length-set (l .buckets) _ _ ∙ l .inv .bucket-words;
+      grouping = group-new (l .inv .grouping) (lowest-of i) (small i) (space i) (k .leader .result) (k .leader .ensures) (c .if1 .taken) (room i) (l .inv .bucket-words);
+    }
 
 mul-equal-2 : tie.Need-mul-equal-2 Inv-loop μ-loop
 mul-equal-2 c = omega (arith, led-room c)
@@ -180,19 +186,20 @@ loop-again-2 : tie.Need-loop-again-2 Inv-loop μ-loop
 loop-again-2 c =
     let k = c .before .before in
     let i = k .before .before in
-    let l = turn i .loop in (
-      omega (arith, rest-small i, l .inv .0),
-      length-set (l .leaders) (row i) _ ∙ l .inv .1,
-      length-set (l .equal) _ _ ∙ l .inv .2,
-      l .inv .3,
-      group-more (l .inv .4) (lowest-of i) (small i) (space i) (k .leader .result) (k .leader .ensures) (c .before .if1 .left) (led-room (c .before)),
-    )
+    let l = turn i .loop in
+    record {
+      fits = omega (arith, rest-small i, l .inv .fits);
+      leader-words = length-set (l .leaders) (row i) _ ∙ l .inv .leader-words;
+      equal-words = length-set (l .equal) _ _ ∙ l .inv .equal-words;
+      bucket-words = l .inv .bucket-words;
+      grouping = group-more (l .inv .grouping) (lowest-of i) (small i) (space i) (k .leader .result) (k .leader .ensures) (c .before .if1 .left) (led-room (c .before));
+    }
 
 same-length : tie.Need-same-length Inv-loop μ-loop
-same-length c = c .before .loop .inv .1
+same-length c = c .before .loop .inv .leader-words
 
 same-length-2 : tie.Need-same-length-2 Inv-loop μ-loop
-same-length-2 c = c .before .loop .inv .2
+same-length-2 c = c .before .loop .inv .equal-words
 
 returns : tie.Need-returns Inv-loop μ-loop
 returns c =
@@ -200,7 +207,7 @@ returns c =
     let q = c .before .before .before .before .before in
     let s = q .args in
     group-end (cellAt (s .width) (s .cells .now) (s .c)) (s .filled) (l .rest) (l .buckets) (l .leaders) (l .equal) (c .loop-test .left)
-    (λ k h. omega (arith, q .pre .2 k h, l .inv .2)) (l .inv .4)
+    (λ k h. omega (arith, q .pre .2 k h, l .inv .equal-words)) (l .inv .grouping)
 
 pub group-rows-spec : {M : Type 1} → statement M
 group-rows-spec =

@@ -22,7 +22,7 @@ index : (c : tie.After-shared-slice-known2 Inv-loop μ-loop)
 index c =
     let s = c .before .before .before .before .before .before .before .before .before in
     let a = s .args in
-    index-small (a .order .now) (a .m) (a .count) (c .before .before .loop .j) (search needs) (s .pre .1) (s .pre .2)
+    index-small (a .order .now) (a .m) (a .count) (c .before .before .loop .j) (search needs) (s .pre .within) (s .pre .below)
 
 clear-positions-requires : tie.Need-clear-positions-requires Inv-loop μ-loop
 clear-positions-requires c κs = search needs
@@ -69,7 +69,7 @@ loop-again c =
     let l = c .before .before .loop in
     let e = c .before .before .before .before .before .clear-positions .ensures in (
       search needs,
-      own-turn (a .order .now) (a .m) (a .count) _ (l .positions) (l .j) (search needs) (s .pre .1) (s .pre .2) (omega (arith, e .size)) (l .inv .1),
+      own-turn (a .order .now) (a .m) (a .count) _ (l .positions) (l .j) (search needs) (s .pre .within) (s .pre .below) (omega (arith, e .size)) (l .inv .1),
     )
 
 same-length : tie.Need-same-length Inv-loop μ-loop

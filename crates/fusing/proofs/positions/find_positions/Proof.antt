@@ -29,7 +29,7 @@ abbrev μ-loop : tie.MeasureT-loop
 fill-own-requires : tie.Need-fill-own-requires Inv-loop μ-loop
 fill-own-requires c κs =
     let q = c .before .before .before .before in
-    (q .pre .0 .few, q .pre .0 .within, q .pre .0 .ordered .below, q .pre .1)
+    record { few = q .pre .0 .few; within = q .pre .0 .within; below = q .pre .0 .ordered .below; room = q .pre .1 }
 
 -- in the loop
 module _ (c : tie.In-loop Inv-loop μ-loop) where
