@@ -1,4 +1,4 @@
--- Every complementing set lies within a listed one: each further position is taken where it is near to all taken so far. Assumes nothing.
+-- Every complementing set lies within a listed one: each further position is taken where it is adjacent to all taken so far. Assumes nothing.
 use mathlib.Core.Path.{_≡_, sym, _∙_, ap, subst}
 use mathlib.Core.Bool.{Bool, true, false}
 use mathlib.Core.List.{List}
@@ -14,7 +14,7 @@ use Rattle.definitions.proofs.Lists.{below-cases}
 use Rattle.definitions.proofs.Sets.{contains-get, holds-within, adding, adding-same, adding-other, adding-keeps, adding-cases, adjacent-all, adjacent-some-not, listed-is}
 
 module _ (adjacent : ℕ → ℕ → Bool) (n : ℕ) (symmetric : (j k : ℕ) → j < n → k < n → adjacent j k ≡ true → adjacent k j ≡ true) where
-  -- t holds all that s holds, and every position below i that it doesn't hold is not near to some member
+  -- t holds all that s holds, and every position below i that it doesn't hold is not adjacent to some member
   record Grown (s : List Bool) (i : ℕ) (t : List Bool) : Type 0 where
     complementing : Complementing adjacent n t
     holds : (k : ℕ) → Holds s k → Holds t k

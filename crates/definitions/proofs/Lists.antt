@@ -1,4 +1,4 @@
--- Laws of the tests, sums and places over lists: what each says of the elements, and what one more element adds to it. Assumes nothing.
+-- Laws of the tests, sums and indices over lists: what each says of the elements, and what one more element adds to it. Assumes nothing.
 use mathlib.Core.Path.{_≡_, refl, sym, _∙_, ap, ap₂, subst}
 use mathlib.Core.Bool.{Bool, true, false, cond, not, _&&_, _||_, and-true, or-false, and-assoc, or-assoc}
 use mathlib.Core.Logic.{inl, inr, ⊎-elim, _↔_}
@@ -161,7 +161,7 @@ module _ {A : Type 0} (p : A → Bool) where
         let i = strict-filter l (h .1) in
         bool-cases (p x) (λ e. rw e (above-filter x l (h .0), i)) (λ e. rw e i)
 
--- ---- the first place that passes
+-- ---- the first index that passes
 
 module _ {A : Type 0} (p : A → Bool) where
   pub findIndex-within : (l : List A) → findIndex p l ≤ length l
@@ -197,7 +197,7 @@ module _ {A : Type 0} (p : A → Bool) where
       bool-cases (p x) (λ q. absurd (clash (or-l (p x) (any p l) q) e))
       (λ q. rw q (ap suc (findIndex-none l (not-so (any p l) (λ r. clash (or-r (p x) (any p l) r) e)))))
 
--- of a strictly ascending list, each element has one place: its own
+-- of a strictly ascending list, each element has one index: its own
 pub findIndex-strict : {A : Type 0} {compare : A → A → Order} (laws : Orders compare) (same : A → A → Bool) (is : (a b : A) → (same a b ≡ true) ↔ (a ≡ b))
     (d : A) (l : List A) (k : ℕ) → StrictlyAscending compare l → k < length l → findIndex (same (getD l k d)) l ≡ k
 findIndex-strict {A} {compare} laws same is d l k strict h =

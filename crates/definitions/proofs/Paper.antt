@@ -233,7 +233,7 @@ cases =
     }
     ∷ []
 
--- two lists have the same elements in the same places
+-- two lists have the same elements at the same indices
 abbrev same : {A : Type 0} → (A → A → Bool) → List A → List A → Bool
 same eq [] [] = true
 same eq [] (y ∷ t) = false

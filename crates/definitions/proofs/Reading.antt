@@ -73,7 +73,7 @@ module _ (n : ℕ) (words : List ℕ) where
 
 -- ---- positions
 
--- the positions of n marks that are told by a set: those of the set, if it has no more than n marks
+-- the positions below n that a set tells of: those of the set, if it tells of no more
 positions-below : (n from : ℕ) (s : List Bool) → length s ≤ n → positionsOf from (below n (λ k. contains s k)) ≡ positionsOf from s
 unfolding below positionsOf contains
 positions-below zero from [] h = refl
@@ -132,7 +132,7 @@ module _ (t : List (List ℕ)) (rest : List ℕ) where
       ∙ rows-read setWidth (map (setRecord t) (unionSets t)) rest
       (λ r h. let i = map-member (setRecord t) r (unionSets t) h in ap (λ (l : List ℕ). length l) (i .2) ∙ record-length t (i .0))
 
-  -- a listed set has a mark for each row
+  -- a listed set tells of each row whether it is in it
   pub listed-length : (s : List Bool) → Member s (unionSets t) → length s ≡ length t
   unfolding unionSets
   listed-length s h = listed-is (complementAt t) (length t) s .0 h .complementing .size

@@ -1,49 +1,27 @@
--- The words of the set list: the record of each set stands in its place, its three words mark its positions bit by bit, and its row word
--- gives the position of its joined row. Assumes nothing.
+-- The words of a record of the set list: its three mark words mark its positions bit by bit, and its row word gives the position of its
+-- joined row. Assumes nothing.
 use mathlib.Core.Path.{_≡_, refl, sym, _∙_, ap}
 use mathlib.Core.Bool.{Bool, true, false, cond}
-use mathlib.Core.List.{List, [], _∷_, _++_, map, flatten}
+use mathlib.Core.List.{List, [], _∷_}
 use Prim.Native.Nat.{ℕ, zero, suc, _+_, _*_, _/_, _%_, _^_, _-_, _<_}
-use native.Mathlib.Nat.{le-of-suc-le-suc, not-suc-le-zero, add-comm, suc-mul, zero-mul, div-one, div-div-eq-div-mul, pow-succ', zero-div, mul-assoc, mul-add-div-right}
+use native.Mathlib.Nat.{le-of-suc-le-suc, not-suc-le-zero, div-one, div-div-eq-div-mul, pow-succ', zero-div, mul-assoc, mul-add-div-right}
 use native.Mathlib.Omega.{arith}
-use lib.ListN.{length, getD, take, drop, List·getD-append}
+use lib.ListN.{length, getD, List·getD-append}
 use lib.Pow.{pow-pos, pow-add, shr-shr, split}
-use lib.Seq.{take-at, drop-at, drop-drop, getD-at}
-use Rattle.definitions.specs.Limits.{markWords, setWidth}
+use lib.Seq.{getD-at}
+use Rattle.definitions.specs.Limits.{markWords}
 use Rattle.definitions.specs.Lists.{findIndex}
 use Rattle.definitions.specs.Word.{wordOf}
 use Rattle.definitions.specs.ComplementUnion.{sameRow, contains, joined, unionSets, fusedRows}
-use Rattle.definitions.specs.SetList.{bits, marksFrom, fusedPosition, setRecord, setList}
+use Rattle.definitions.specs.SetList.{bits, marksFrom, fusedPosition, setRecord}
 use Rattle.definitions.specs.Statements.{Member}
 use Rattle.definitions.proofs.Orders.{rows}
 use Rattle.definitions.proofs.Lists.{findIndex-found, findIndex-at, findIndex-strict}
 use Rattle.definitions.proofs.Rows.{same-is}
 use Rattle.definitions.proofs.Unions.{fused-rise, fused-are}
-use Rattle.definitions.proofs.Counts.{marks-length, record-length}
-
--- ---- records of c words, one after the other
-
-pub record-at : {A B : Type 0} (f : A → List B) (c : ℕ) → ((x : A) → length (f x) ≡ c) → (d : A) (l : List A) (k : ℕ) → k < length l
-    → take c (drop (k * c) (flatten (map f l))) ≡ f (getD l k d)
-unfolding flatten
-record-at f c e d [] k h = absurd (not-suc-le-zero h)
-record-at f c e d (x ∷ l) zero h = rw zero-mul (take-at (f x) (flatten (map f l)) c (e x))
-record-at {B = B} f c e d (x ∷ l) (suc k) h =
-    let rest = flatten (map f l) in
-    let at : suc k * c ≡ c + k * c = suc-mul k c ∙ add-comm (k * c) c in
-    ap (λ (n : ℕ). take c (drop n (f x ++ rest))) at
-    ∙ ap (λ (w : List B). take c w) (sym (drop-drop (k * c) c (f x ++ rest)) ∙ ap (λ (w : List B). drop (k * c) w) (drop-at (f x) rest c (e x)))
-    ∙ record-at f c e d l k (le-of-suc-le-suc h)
+use Rattle.definitions.proofs.Counts.{marks-length}
 
 module _ (t : List (List ℕ)) where
-  -- "then 4 words a set"
-  pub set-list-record : (k : ℕ) → k < length (unionSets t) → take setWidth (drop (1 + k * setWidth) (setList t)) ≡ setRecord t (getD (unionSets t) k [])
-  unfolding setList
-  set-list-record k h =
-      let at : 1 + k * setWidth ≡ suc (k * setWidth) = omega arith in
-      ap (λ (n : ℕ). take setWidth (drop n (setList t))) at
-      ∙ record-at (setRecord t) setWidth (record-length t) [] (unionSets t) k h
-
   -- "and one of kind 1 with the joined row's position in the fused table"
   pub row-word : (s : List Bool) → getD (setRecord t s) markWords 0 ≡ wordOf 1 (fusedPosition t s)
   unfolding setRecord
@@ -64,7 +42,7 @@ module _ (t : List (List ℕ)) where
   fused-position-of s k h e =
       ap (λ (r : List ℕ). findIndex (sameRow r) (fusedRows t)) (sym e) ∙ findIndex-strict rows sameRow same-is [] (fusedRows t) k (fused-rise t) h
 
--- ---- marks
+-- ---- mark words
 
 bit-low : (m : Bool) (x : ℕ) → (cond m 1 0 + 2 * x) % 2 ≡ cond m 1 0
 bit-low true x = omega arith

@@ -1,5 +1,5 @@
 -- What it is to be listed among the maximal complementing sets, in words; and that the list is in set order and is determined by who is
--- near whom. Assumes nothing.
+-- adjacent to whom. Assumes nothing.
 use mathlib.Core.Path.{_≡_, refl, sym, _∙_, ap, subst}
 use mathlib.Core.Bool.{Bool, true, false, not, _&&_, _||_}
 use mathlib.Core.Logic.{inl, inr, ⊎-elim, _↔_}
@@ -98,7 +98,7 @@ implies-no true b e = (refl, e)
 implies-no false b e = absurd (clash refl e)
 
 module _ (adjacent : ℕ → ℕ → Bool) (n : ℕ) where
-  -- the position j is near to every member, or some member is not near to it
+  -- the position j is adjacent to every member, or some member is not adjacent to it
   pub adjacent-all : (s : List Bool) (j : ℕ) → length s ≡ n → adjacentToAll adjacent n s j ≡ true → (k : ℕ) → Holds s k → adjacent j k ≡ true
   unfolding adjacentToAll
   adjacent-all s j e h k g =
@@ -182,7 +182,7 @@ module _ (adjacent : ℕ → ℕ → Bool) (n : ℕ) where
   unfolding maximalSets
   listed-rise = strict-filter (λ s. isComplementing adjacent n s && isMaximal adjacent n s) compareSet (subsets n) (subsets-rise n)
 
--- ---- the list depends on who is near whom, below n, alone
+-- ---- the list depends on who is adjacent to whom, below n, alone
 
 maximal-ext : (adjacent other : ℕ → ℕ → Bool) (n : ℕ) → ((j k : ℕ) → j < n → k < n → adjacent j k ≡ other j k) → (s : List Bool) → Maximal adjacent n s → Maximal other n s
 maximal-ext adjacent other n f s m =

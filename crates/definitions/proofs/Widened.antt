@@ -18,7 +18,7 @@ module _ (union ids row : List ℕ) where
   unfolding widened
   widened-at k h = map-at (cellIn ids row) 0 0 union k h
 
-  -- an id has one place among distinct ids
+  -- an id has one index among distinct ids
   pub cell-own : distinct eqb ids ≡ true → (j : ℕ) → j < length ids → cellIn ids row (getD ids j 0) ≡ getD row j 0
   cell-own d j h =
       ap (λ (k : ℕ). getD row k 0)

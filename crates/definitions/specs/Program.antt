@@ -107,7 +107,7 @@ fuseText board plant = readText (take maxBytes board) (take maxBytes plant)
 abbrev pub rowBytes : ℕ
 rowBytes = 11 * maxColumns + 1
 
--- a set line: at most two digits a position and a byte behind each, `>`, a space, a place of at most four digits,
+-- a set line: at most two digits a position and a byte behind each, `>`, a space, a position of at most four digits,
 -- and the line's end
 abbrev pub setBytes : ℕ
 setBytes = 3 * maxUnionRows + 7
