@@ -1,6 +1,6 @@
 /*
  * Fusion of two dispatch tables: outer union, minimum union and complement
- * union of two table images.
+ * union of two table images, and the reader of a set list.
  *
  * An image is a list of 32-bit words:
  *   header    0xC0000000 | rows << 18 | columns
@@ -13,20 +13,23 @@
  *
  * All lengths are counted in words and may have any value. Pointers must not
  * be null, also where the length is 0, and must be aligned for uint32_t. The
- * two images are only read and may be the same memory; table, sets and answer
- * must not overlap each other or an image. The calls keep no state and
- * allocate nothing. The archive needs memcpy and memset and nothing else.
+ * two images are only read and may be the same memory; table, sets, words and
+ * answer must not overlap each other, an image or a list. The calls keep no
+ * state and allocate nothing. The archive needs memcpy and memset and nothing else.
  *
  * Each call returns the refusal number, 0 for done, and writes the answer:
  *
  *   word  done                                        refused
  *   0     0                                           refusal number
  *   1     0                                           table
- *   2     rows of the result                          0
- *   3     words written into table                    0
- *   4     filled cells of the result                  0
+ *   2     rows of the result (unions, otherwise 0)    0
+ *   3     words written into table, of the reader     0
+ *         into words
+ *   4     filled cells of the result (unions,         0
+ *         otherwise 0)
  *   5     pairs tried (minimum union, otherwise 0)    0
- *   6     sets (complement union, otherwise 0)        0
+ *   6     sets (complement union and reader,          0
+ *         otherwise 0)
  *   7     words written into sets (complement union,  0
  *         otherwise 0)
  *   8     0                                           0
@@ -35,8 +38,8 @@
  * that fit; words past the ninth stay as they are. The refused table is 0 for
  * the first, 1 for the second and 2 for all numbers from 8.
  *
- * A refusal changes no word of table and sets. After a done call, the words of
- * table and sets past the written ones are as they were.
+ * A refusal changes no word of table, sets and words. After a done call, the
+ * words of these past the written ones are as they were.
  */
 #ifndef FUSION_H
 #define FUSION_H
@@ -58,8 +61,12 @@ extern "C" {
 #define FUSION_FUSED_WORDS (1 + 16 + 1024 * 16)
 #define FUSION_SET_WORDS (1 + 4 * 1024)
 
+/* Words that are enough for every set list that is read. */
+#define FUSION_READ_WORDS (1024 * (2 + 64))
+
 /* Refusal numbers. The first question that is answered with no gives its
- * number. Numbers 1 to 7 are asked of the first table, then of the second. */
+ * number. Numbers 1 to 7 are asked of the first table, then of the second. The
+ * reader asks 12, 13, 14 and then 10. */
 enum fusion_number {
     FUSION_DONE = 0,
     FUSION_BAD_HEADER = 1,     /* no first word, or not of header form */
@@ -71,8 +78,11 @@ enum fusion_number {
     FUSION_BAD_CELL = 7,       /* a cell is neither empty nor filled */
     FUSION_UNION_COLUMNS = 8,  /* the union has more than 16 columns */
     FUSION_TOO_MANY_SETS = 9,  /* more than 1024 maximal sets */
-    FUSION_TABLE_TOO_SHORT = 10,
-    FUSION_SETS_TOO_SHORT = 11
+    FUSION_TABLE_TOO_SHORT = 10, /* of the reader: words is too short */
+    FUSION_SETS_TOO_SHORT = 11,
+    FUSION_BAD_LIST = 12,      /* no set list, or more than 64 rows */
+    FUSION_BAD_RECORD = 13,    /* a set's words are not of their form */
+    FUSION_BAD_ORDER = 14      /* the sets do not rise in set order */
 };
 
 /*
@@ -118,6 +128,30 @@ uint32_t fusion_complement_union(const uint32_t *first, size_t first_len,
                                  uint32_t *table, size_t table_len,
                                  uint32_t *sets, size_t sets_len,
                                  uint32_t *answer, size_t answer_len);
+
+/*
+ * Reads a set list back, for a T of so many rows, 0 to 64. Writes into words,
+ * for each set, without kind bits:
+ *   the number of its members
+ *   their positions in T, ascending
+ *   the position of the joined row in the fused table
+ * The answer's word 3 is the number of words written, at most 65602; word 6 is
+ * the number of sets. Whether the sets are maximal is not judged. The time is
+ * linear in the words read and written.
+ *
+ * Refusals, in this order, all with table 2:
+ *   12  rows is over 64; the first word is missing, not of kind 3, has one of
+ *       its bits 17 to 5 set, has another width than 4 or counts more than 1024
+ *       sets; or list_len is not 1 + 4 * sets
+ *   13  in any record: a word of the wrong kind, no marked position, a marked
+ *       position that is not below rows, or a joined row's position above 1023
+ *   14  a set does not come before the next in set order
+ *   10  words is too short
+ */
+uint32_t fusion_read_set_list(const uint32_t *list, size_t list_len,
+                              uint32_t rows,
+                              uint32_t *words, size_t words_len,
+                              uint32_t *answer, size_t answer_len);
 
 #ifdef __cplusplus
 }

@@ -1,6 +1,6 @@
 //! The product's C interface (include/fusion.h) and safe wrappers around it.
 
-use crate::{Call, Unions};
+use crate::{Call, Reader, Unions};
 
 mod raw {
     extern "C" {
@@ -35,6 +35,16 @@ mod raw {
             table_len: usize,
             sets: *mut u32,
             sets_len: usize,
+            answer: *mut u32,
+            answer_len: usize,
+        ) -> u32;
+
+        pub fn fusion_read_set_list(
+            list: *const u32,
+            list_len: usize,
+            rows: u32,
+            words: *mut u32,
+            words_len: usize,
             answer: *mut u32,
             answer_len: usize,
         ) -> u32;
@@ -102,6 +112,23 @@ pub fn complement_union(
     }
 }
 
+/// Writes the members of each set of a list into `words` and returns the
+/// refusal number.
+pub fn read_set_list(list: &[u32], rows: u32, words: &mut [u32], answer: &mut [u32]) -> u32 {
+    // SAFETY: as in `outer_union`.
+    unsafe {
+        raw::fusion_read_set_list(
+            list.as_ptr(),
+            list.len(),
+            rows,
+            words.as_mut_ptr(),
+            words.len(),
+            answer.as_mut_ptr(),
+            answer.len(),
+        )
+    }
+}
+
 /// The product behind the common interface.
 pub struct Product;
 
@@ -120,5 +147,11 @@ impl Unions for Product {
             Call::Minimum => minimum_union(first, second, table, answer),
             Call::Complement => complement_union(first, second, table, sets, answer),
         }
+    }
+}
+
+impl Reader for Product {
+    fn read(&mut self, list: &[u32], rows: u32, words: &mut [u32], answer: &mut [u32]) -> u32 {
+        read_set_list(list, rows, words, answer)
     }
 }

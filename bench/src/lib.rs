@@ -1,11 +1,12 @@
 //! Comparison implementations, input generator and C interface for the fusion
-//! library. Everything here is written from document 01, not from the
-//! product's code.
+//! library. Everything here is written from document 01 and the requests
+//! after it, not from the product's code.
 
 pub mod count;
 #[cfg(feature = "product")]
 pub mod ffi;
 pub mod generate;
+pub mod lists;
 pub mod naive;
 pub mod reference;
 pub mod workloads;
@@ -22,6 +23,8 @@ pub const MAX_SETS: usize = 1024;
 pub const MAX_TABLE_WORDS: usize = 1 + MAX_COLUMNS + MAX_SETS * MAX_COLUMNS;
 /// Words of the largest set list.
 pub const MAX_SET_WORDS: usize = 1 + 4 * MAX_SETS;
+/// Words that are enough for every set list that is read.
+pub const MAX_READ_WORDS: usize = MAX_SETS * (2 + MAX_ROWS);
 /// Words of an answer.
 pub const ANSWER_WORDS: usize = 9;
 
@@ -72,7 +75,7 @@ impl Answer {
     }
 }
 
-/// The three public calls.
+/// The three unions.
 #[derive(Clone, Copy, Debug, PartialEq, Eq)]
 pub enum Call {
     Outer,
@@ -92,7 +95,7 @@ impl Call {
     }
 }
 
-/// An implementation of the three calls. `run` writes the answer words that
+/// An implementation of the three unions. `run` writes the answer words that
 /// fit into `answer` and returns the refusal number. Outer union and minimum
 /// union leave `sets` alone.
 pub trait Unions {
@@ -106,3 +109,18 @@ pub trait Unions {
         answer: &mut [u32],
     ) -> u32;
 }
+
+/// An implementation of the reader of set lists, for a T of `rows` rows. `read`
+/// writes the answer words that fit into `answer` and returns the refusal
+/// number.
+pub trait Reader {
+    fn read(&mut self, list: &[u32], rows: u32, words: &mut [u32], answer: &mut [u32]) -> u32;
+}
+
+/// The name of the reader beside those of the unions.
+pub const READ_NAME: &str = "read set list";
+
+/// An implementation of all calls.
+pub trait Library: Unions + Reader {}
+
+impl<T: Unions + Reader> Library for T {}

@@ -1,9 +1,10 @@
 //! Brute force straight from the definitions of document 01, with no care for
 //! speed. For T of up to `SUBSET_ROWS` rows the maximal sets are found by
 //! looking at every subset; above that, `Naive` goes through T row by row and
-//! keeps the sets that are maximal among the rows so far.
+//! keeps the sets that are maximal among the rows so far. A set list is read
+//! bit by bit.
 
-use crate::{Answer, Call, Unions, MAX_COLUMNS, MAX_SETS, MAX_SOURCE_ROWS};
+use crate::{Answer, Call, Reader, Unions, MAX_COLUMNS, MAX_ROWS, MAX_SETS, MAX_SOURCE_ROWS};
 use std::collections::{BTreeMap, BTreeSet};
 
 /// Largest T for which every subset is looked at.
@@ -342,5 +343,92 @@ impl Unions for Naive {
     ) -> u32 {
         let (Ok(given) | Err(given)) = self.union(call, first, second, table, sets);
         given.give(answer)
+    }
+}
+
+/// Whether bits `from` to `to` of a word are zero.
+fn zero_bits(word: u32, from: u32, to: u32) -> bool {
+    (from..=to).all(|bit| word & (1 << bit) == 0)
+}
+
+/// Check 12: the number of sets.
+fn list_header(list: &[u32], rows: u32) -> Result<usize, u32> {
+    if rows > MAX_ROWS as u32 || list.is_empty() {
+        return Err(12);
+    }
+    let header = list[0];
+    let sets = (header / (1 << 18) % (1 << 12)) as usize;
+    let form = header / (1 << 30) == 3 && zero_bits(header, 5, 17) && header % 32 == 4;
+    if !form || sets > MAX_SETS || list.len() != 1 + 4 * sets {
+        return Err(12);
+    }
+    Ok(sets)
+}
+
+/// Check 13: the positions of a record's set and that of its joined row.
+fn read_record(record: &[u32], rows: u32) -> Result<(BTreeSet<u32>, u32), u32> {
+    let mut positions = BTreeSet::new();
+    for (&word, start) in record[..3].iter().zip([0, 30, 60]) {
+        if word / (1 << 30) != 2 {
+            return Err(13);
+        }
+        for bit in 0..30 {
+            if word / (1 << bit) % 2 == 1 {
+                positions.insert(start + bit);
+            }
+        }
+    }
+    let (kind, place) = (record[3] / (1 << 30), record[3] % (1 << 30));
+    // An unused bit is a position from 64 on.
+    if kind != 1
+        || positions.is_empty()
+        || positions.iter().any(|&p| p >= 64 || p >= rows)
+        || place > 1023
+    {
+        return Err(13);
+    }
+    Ok((positions, place))
+}
+
+/// The smallest position that only one set holds is in `a`.
+fn comes_first(a: &BTreeSet<u32>, b: &BTreeSet<u32>) -> bool {
+    a.symmetric_difference(b)
+        .next()
+        .is_some_and(|position| a.contains(position))
+}
+
+fn read_list(list: &[u32], rows: u32, words: &mut [u32]) -> Result<Answer, u32> {
+    let sets = list_header(list, rows)?;
+    let mut entries = Vec::new();
+    for k in 0..sets {
+        entries.push(read_record(&list[1 + 4 * k..5 + 4 * k], rows)?);
+    }
+    for k in 1..sets {
+        if !comes_first(&entries[k - 1].0, &entries[k].0) {
+            return Err(14);
+        }
+    }
+    let mut result = Vec::new();
+    for (positions, place) in entries {
+        result.push(positions.len() as u32);
+        result.extend(positions);
+        result.push(place);
+    }
+    if words.len() < result.len() {
+        return Err(10);
+    }
+    words[..result.len()].copy_from_slice(&result);
+    Ok(Answer {
+        words: result.len() as u32,
+        sets: sets as u32,
+        ..Answer::default()
+    })
+}
+
+impl Reader for Naive {
+    fn read(&mut self, list: &[u32], rows: u32, words: &mut [u32], answer: &mut [u32]) -> u32 {
+        read_list(list, rows, words)
+            .unwrap_or_else(|number| Answer::refused(number, 2))
+            .give(answer)
     }
 }

@@ -1,5 +1,5 @@
-//! Reference implementation of outer union, minimum union and complement
-//! union, made for speed. A `Reference` holds the working memory; a call
+//! Reference implementation of outer union, minimum union, complement union
+//! and the reader of set lists, made for speed. A `Reference` holds the working memory; a call
 //! allocates nothing.
 //!
 //! Method:
@@ -14,8 +14,10 @@
 //! - For joining, each cell is coded in 7 bits (0 empty, otherwise the rank of
 //!   its number in the column). A joined row is then the bitwise or of its
 //!   members' 112-bit codes, and codes are ordered as rows are.
+//! - A set list is read with a set as one 64-bit word: one pass over the
+//!   records for all checks and the number of words, one that writes.
 
-use crate::{Answer, Call, Unions, MAX_COLUMNS, MAX_ROWS, MAX_SETS, MAX_SOURCE_ROWS};
+use crate::{Answer, Call, Reader, Unions, MAX_COLUMNS, MAX_ROWS, MAX_SETS, MAX_SOURCE_ROWS};
 use core::cmp::{Ordering, Reverse};
 
 /// Cell pairs in a padded row.
@@ -171,6 +173,14 @@ impl Reference {
         self.found[..self.sets].sort_unstable_by_key(|set| Reverse(set.members));
         let rows = self.fuse();
         self.write_fused(rows, table, sets)
+    }
+
+    /// The sets of the last complement union that was not refused with a number
+    /// up to 9, each with the position of its joined row.
+    pub fn sets_found(&self) -> impl Iterator<Item = (u64, u32)> + '_ {
+        let sets = &self.found[..self.sets];
+        let places = sets.iter().zip(&self.fused_place);
+        places.map(|(set, &place)| (set.members.reverse_bits(), u32::from(place)))
     }
 
     /// Questions 1 to 8 and T.
@@ -515,6 +525,76 @@ impl Unions for Reference {
         }
         .give(answer)
     }
+}
+
+impl Reader for Reference {
+    fn read(&mut self, list: &[u32], rows: u32, words: &mut [u32], answer: &mut [u32]) -> u32 {
+        read_set_list(list, rows, words).give(answer)
+    }
+}
+
+/// Writes the members of each set of a list, for a T of `rows` rows.
+pub fn read_set_list(list: &[u32], rows: u32, words: &mut [u32]) -> Answer {
+    let Some((&header, records)) = list.split_first() else {
+        return Answer::refused(12, 2);
+    };
+    let sets = (header >> 18 & 0xFFF) as usize;
+    let form = header & !(0xFFF << 18) == HEADER | 4;
+    if !form || rows as usize > MAX_ROWS || sets > MAX_SETS || records.len() != 4 * sets {
+        return Answer::refused(12, 2);
+    }
+    let outside = u64::MAX.checked_shl(rows).unwrap_or(0);
+    let mut needed = 0;
+    let mut rising = true;
+    // Position 0 in the highest bit: set order is descending.
+    let mut last = u64::MAX;
+    let mut first = true;
+    for record in records.chunks_exact(4) {
+        let set = members(record);
+        let kinds = record[0] & record[1] & record[2] & !record[3] & MARKS == MARKS
+            && (record[0] | record[1] | record[2]) & FILLED == 0
+            && record[3] & FILLED != 0;
+        // Bits 29 to 4 of the third word mark no position.
+        let spare = record[2] & 0x3FFF_FFF0;
+        let place = record[3] & 0x3FFF_FFFF;
+        if !kinds || spare != 0 || set == 0 || set & outside != 0 || place as usize >= MAX_SETS {
+            return Answer::refused(13, 2);
+        }
+        let turned = set.reverse_bits();
+        rising &= first || turned < last;
+        (last, first) = (turned, false);
+        needed += 2 + set.count_ones() as usize;
+    }
+    if !rising {
+        return Answer::refused(14, 2);
+    }
+    let Some(out) = words.get_mut(..needed) else {
+        return Answer::refused(10, 2);
+    };
+    let mut at = 0;
+    for record in records.chunks_exact(4) {
+        let mut rest = members(record);
+        out[at] = rest.count_ones();
+        at += 1;
+        while rest != 0 {
+            out[at] = rest.trailing_zeros();
+            at += 1;
+            rest &= rest - 1;
+        }
+        out[at] = record[3] & 0x3FFF_FFFF;
+        at += 1;
+    }
+    Answer {
+        words: needed as u32,
+        sets: sets as u32,
+        ..Answer::default()
+    }
+}
+
+/// The positions that a record marks, as bits from the lowest on.
+fn members(record: &[u32]) -> u64 {
+    let low = |word: u32| u64::from(word & 0x3FFF_FFFF);
+    low(record[0]) | low(record[1]) << 30 | low(record[2]) << 60
 }
 
 fn compare(a: &[u64; PAIRS], b: &[u64; PAIRS]) -> Ordering {

@@ -6,9 +6,10 @@ use crate::generate::{
     all_complement, cell, distinct_ids, distinct_numbers, document_sets, far_over_limit, grid,
     grid_beside, hostile, pair, random_table, scatter, spread, Pair, Rng, Table,
 };
-use crate::reference::Reference;
+use crate::lists::{largest_sets, layout, sets, List};
+use crate::reference::{read_set_list, Reference};
 use crate::{Call, MAX_COLUMNS, MAX_ROWS, MAX_SETS, MAX_SOURCE_ROWS};
-use crate::{MAX_SET_WORDS, MAX_TABLE_WORDS};
+use crate::{MAX_READ_WORDS, MAX_SET_WORDS, MAX_TABLE_WORDS};
 use std::collections::BTreeSet;
 
 /// What is known beforehand of the number of maximal sets of every input.
@@ -32,6 +33,9 @@ pub struct Workload {
 
 /// The most that outer and minimum union may take, reference = 1.
 const UNION_BAR: f64 = 1.1;
+
+/// The most that the reader may take, reference = 1.
+const READ_BAR: f64 = 1.3;
 
 /// Sets are counted up to here.
 const COUNT_LIMIT: usize = 4096;
@@ -314,4 +318,78 @@ pub fn growth_with_sets() -> Vec<Workload> {
             })
         })
         .collect()
+}
+
+/// Inputs of one benchmark line of the reader.
+pub struct Reading {
+    pub name: String,
+    pub lists: Vec<List>,
+    /// The most that the reader may take, reference = 1.
+    pub bar: f64,
+}
+
+impl Reading {
+    fn new(name: &str, make: impl Fn(&mut Rng) -> (Vec<u32>, u32)) -> Reading {
+        let lists = (0..VARIANTS)
+            .map(|variant| {
+                let (words, rows) = make(&mut Rng::for_case(2026, variant));
+                List {
+                    kind: "workload",
+                    words,
+                    rows,
+                }
+            })
+            .collect();
+        Reading {
+            name: name.to_string(),
+            lists,
+            bar: READ_BAR,
+        }
+    }
+
+    /// The sets of each list, and the words that they take. Stops the program
+    /// unless all lists are accepted and have as many sets.
+    pub fn check(&self) -> (u32, u32) {
+        let mut words = vec![0; MAX_READ_WORDS];
+        let mut found = (0, 0);
+        for (list, k) in self.lists.iter().zip(0..) {
+            let answer = read_set_list(&list.words, list.rows, &mut words);
+            assert_eq!(answer.number, 0, "'{}' has to be done", self.name);
+            assert!(k == 0 || found.0 == answer.sets, "sets of '{}'", self.name);
+            found = (answer.sets, found.1.max(answer.words));
+        }
+        found
+    }
+}
+
+/// The list of document 01's 1,024 sets.
+fn document_list(rng: &mut Rng) -> (Vec<u32>, u32) {
+    let (first, second) = document_sets(rng, 0);
+    let (mut table, mut sets) = (vec![0; MAX_TABLE_WORDS], vec![0; MAX_SET_WORDS]);
+    let (first, second) = (first.image(), second.image());
+    let answer = Reference::new().complement_union(&first, &second, &mut table, &mut sets);
+    sets.truncate(answer.set_words as usize);
+    (sets, 20)
+}
+
+/// So many sets of 40 rows.
+fn small_list(rng: &mut Rng, count: usize) -> (Vec<u32>, u32) {
+    loop {
+        let entries = sets(rng, 40, count);
+        if entries.len() == count {
+            return (layout(&entries), 40);
+        }
+    }
+}
+
+/// The workloads of the reader.
+pub fn readings() -> Vec<Reading> {
+    let largest = layout(&largest_sets(MAX_SETS));
+    vec![
+        Reading::new("40 sets of 40 rows", |rng| small_list(rng, 40)),
+        Reading::new("1,024 sets of 20 rows", document_list),
+        Reading::new("the 1,024 largest sets of 64 rows", |_| {
+            (largest.clone(), MAX_ROWS as u32)
+        }),
+    ]
 }

@@ -3,7 +3,7 @@
 use fusion_bench::count::Graph;
 use fusion_bench::generate::{Pair, Rng};
 use fusion_bench::workloads::{
-    groups_of_four, growth_with_rows, growth_with_sets, workloads, Place,
+    groups_of_four, growth_with_rows, growth_with_sets, readings, workloads, Place,
 };
 
 #[test]
@@ -12,6 +12,13 @@ fn sets_are_as_said() {
     for workload in lists.iter().flatten() {
         workload.check();
     }
+}
+
+#[test]
+fn lists_are_as_said() {
+    let found: Vec<(u32, u32)> = readings().iter().map(|reading| reading.check()).collect();
+    assert_eq!(found[0].0, 40);
+    assert_eq!(found[1..], [(1024, 1024 * 12), (1024, 65_602)]);
 }
 
 /// The positions that complement the most rows, as a range of T.

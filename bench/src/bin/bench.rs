@@ -11,9 +11,12 @@
 #[cfg(feature = "product")]
 use fusion_bench::ffi::Product;
 use fusion_bench::generate::Pair;
+use fusion_bench::lists::List;
 use fusion_bench::reference::Reference;
-use fusion_bench::workloads::{growth_with_rows, growth_with_sets, workloads, Workload};
-use fusion_bench::{Call, Unions, ANSWER_WORDS, MAX_SET_WORDS, MAX_TABLE_WORDS};
+use fusion_bench::workloads::{growth_with_rows, growth_with_sets, readings, workloads};
+use fusion_bench::workloads::{Reading, Workload};
+use fusion_bench::{Call, Library, ANSWER_WORDS, READ_NAME};
+use fusion_bench::{MAX_READ_WORDS, MAX_SET_WORDS, MAX_TABLE_WORDS};
 use std::hint::black_box;
 
 const BATCHES: usize = 21;
@@ -51,73 +54,109 @@ fn now() -> u64 {
     START.get_or_init(Instant::now).elapsed().as_nanos() as u64
 }
 
+/// A call and the inputs that it goes through in turn.
+#[derive(Clone, Copy)]
+enum Work<'a> {
+    Union(Call, &'a [Pair]),
+    Read(&'a [List]),
+}
+
+impl Work<'_> {
+    fn name(self) -> &'static str {
+        match self {
+            Work::Union(call, _) => call.name(),
+            Work::Read(_) => READ_NAME,
+        }
+    }
+
+    fn inputs(self) -> usize {
+        match self {
+            Work::Union(_, pairs) => pairs.len(),
+            Work::Read(lists) => lists.len(),
+        }
+    }
+}
+
 /// One implementation with its buffers and its times.
 struct Lane {
-    unions: Box<dyn Unions>,
+    library: Box<dyn Library>,
     table: Vec<u32>,
     sets: Vec<u32>,
+    words: Vec<u32>,
     answer: [u32; ANSWER_WORDS],
     rounds: u32,
     times: Vec<f64>,
 }
 
 impl Lane {
-    fn new(unions: Box<dyn Unions>) -> Lane {
+    fn new(library: Box<dyn Library>) -> Lane {
         Lane {
-            unions,
+            library,
             table: vec![0; MAX_TABLE_WORDS],
             sets: vec![0; MAX_SET_WORDS],
+            words: vec![0; MAX_READ_WORDS],
             answer: [0; ANSWER_WORDS],
             rounds: 1,
             times: Vec::new(),
         }
     }
 
-    /// Nanoseconds of a number of rounds over the workload.
-    fn time(&mut self, workload: &Workload, call: Call, rounds: u32) -> u64 {
+    /// Makes the call on one input.
+    #[inline(always)]
+    fn call(&mut self, work: Work, input: usize) -> u32 {
+        match work {
+            Work::Union(call, pairs) => self.library.run(
+                call,
+                black_box(&pairs[input].first),
+                black_box(&pairs[input].second),
+                &mut self.table,
+                &mut self.sets,
+                &mut self.answer,
+            ),
+            Work::Read(lists) => self.library.read(
+                black_box(&lists[input].words),
+                lists[input].rows,
+                &mut self.words,
+                &mut self.answer,
+            ),
+        }
+    }
+
+    /// Nanoseconds of a number of rounds over the inputs.
+    fn time(&mut self, work: Work, rounds: u32) -> u64 {
         let start = now();
         for _ in 0..rounds {
-            for pair in &workload.pairs {
-                black_box(self.unions.run(
-                    call,
-                    black_box(&pair.first),
-                    black_box(&pair.second),
-                    &mut self.table,
-                    &mut self.sets,
-                    &mut self.answer,
-                ));
-                black_box((&self.table, &self.sets, &self.answer));
+            for input in 0..work.inputs() {
+                black_box(self.call(work, input));
+                black_box((&self.table, &self.sets, &self.words, &self.answer));
             }
         }
         now() - start
     }
 
     /// Warms up and finds the rounds of a batch.
-    fn calibrate(&mut self, workload: &Workload, call: Call) {
+    fn calibrate(&mut self, work: Work) {
         self.times.clear();
         self.rounds = 1;
-        while self.time(workload, call, self.rounds) < BATCH_TIME {
+        while self.time(work, self.rounds) < BATCH_TIME {
             self.rounds *= 2;
         }
     }
 
     /// Runs one input and gives the answer and the words written.
-    fn run(&mut self, pair: &Pair, call: Call) -> (&[u32], &[u32], &[u32]) {
-        self.unions.run(
-            call,
-            &pair.first,
-            &pair.second,
-            &mut self.table,
-            &mut self.sets,
-            &mut self.answer,
-        );
+    fn run(&mut self, work: Work, input: usize) -> (&[u32], &[u32], &[u32]) {
+        self.call(work, input);
         let (words, set_words) = (self.answer[3] as usize, self.answer[7] as usize);
-        (&self.answer, &self.table[..words], &self.sets[..set_words])
+        let written = match work {
+            Work::Union(..) => &self.table[..words],
+            Work::Read(_) => &self.words[..words],
+        };
+        (&self.answer, written, &self.sets[..set_words])
     }
 
-    fn batch(&mut self, workload: &Workload, call: Call) {
-        let time = self.time(workload, call, self.rounds);
-        let calls = f64::from(self.rounds) * workload.pairs.len() as f64;
+    fn batch(&mut self, work: Work) {
+        let time = self.time(work, self.rounds);
+        let calls = f64::from(self.rounds) * work.inputs() as f64;
         self.times.push(time as f64 / calls);
     }
 
@@ -128,27 +167,26 @@ impl Lane {
 }
 
 /// Stops the program where the lanes differ: their times would say nothing.
-fn compare(lanes: &mut [Lane], workload: &Workload, call: Call) {
+fn compare(lanes: &mut [Lane], name: &str, work: Work) {
     let (first, others) = lanes.split_first_mut().unwrap();
-    for pair in &workload.pairs {
-        let expected = first.run(pair, call);
+    for input in 0..work.inputs() {
+        let expected = first.run(work, input);
         for other in others.iter_mut() {
-            let name = &workload.name;
-            assert!(other.run(pair, call) == expected, "'{name}': they differ");
+            assert!(other.run(work, input) == expected, "'{name}': they differ");
         }
     }
 }
 
 /// Medians of the lanes, in nanoseconds per call.
-fn measure(lanes: &mut [Lane], workload: &Workload, call: Call) -> Vec<f64> {
+fn measure(lanes: &mut [Lane], work: Work) -> Vec<f64> {
     for lane in lanes.iter_mut() {
-        lane.calibrate(workload, call);
+        lane.calibrate(work);
     }
     for batch in 0..BATCHES {
         let turn = batch % lanes.len();
         lanes.rotate_left(turn);
         for lane in lanes.iter_mut() {
-            lane.batch(workload, call);
+            lane.batch(work);
         }
         lanes.rotate_right(turn);
     }
@@ -178,21 +216,18 @@ fn sets(workload: &Workload) -> String {
 }
 
 /// The line of one call on one workload.
-fn line(lanes: &mut [Lane], workload: &Workload, sets: &str, call: Call) {
-    compare(lanes, workload, call);
-    let medians = measure(lanes, workload, call);
-    let (name, call_name) = (&workload.name, call.name());
-    print!("| {name} | {sets} | {call_name} | {:.0} |", medians[0]);
+fn line(lanes: &mut [Lane], name: &str, sets: &str, work: Work, bar: Option<f64>) {
+    compare(lanes, name, work);
+    let medians = measure(lanes, work);
+    print!("| {name} | {sets} | {} | {:.0} |", work.name(), medians[0]);
     if let [reference, product] = medians[..] {
-        let bar = workload
-            .bar_of(call)
-            .map_or("-".to_string(), |bar| bar.to_string());
+        let bar = bar.map_or("-".to_string(), |bar| bar.to_string());
         print!(" {product:.0} | {:.3} | {bar} |", product / reference);
     }
     println!();
 }
 
-fn table(title: &str, lanes: &mut [Lane], workloads: &[Workload], calls: &[Call]) {
+fn head(title: &str, lanes: &[Lane]) {
     println!("\n### {title}\n");
     if lanes.len() == 2 {
         println!(
@@ -203,12 +238,32 @@ fn table(title: &str, lanes: &mut [Lane], workloads: &[Workload], calls: &[Call]
         println!("| workload | sets | call | reference ns |");
         println!("|---|---|---|---:|");
     }
+}
+
+fn table(title: &str, lanes: &mut [Lane], workloads: &[Workload], calls: &[Call]) {
+    head(title, lanes);
     for workload in workloads {
         workload.check();
-        let sets = sets(workload);
+        let (name, sets) = (&workload.name, sets(workload));
         for &call in calls {
-            line(lanes, workload, &sets, call);
+            let work = Work::Union(call, &workload.pairs);
+            line(lanes, name, &sets, work, workload.bar_of(call));
         }
+    }
+}
+
+fn reading_table(title: &str, lanes: &mut [Lane], readings: &[Reading]) {
+    head(title, lanes);
+    for reading in readings {
+        let (sets, _) = reading.check();
+        let work = Work::Read(&reading.lists);
+        line(
+            lanes,
+            &reading.name,
+            &sets.to_string(),
+            work,
+            Some(reading.bar),
+        );
     }
 }
 
@@ -236,4 +291,7 @@ fn main() {
     ] {
         table(title, &mut lanes, &chosen(list), calls);
     }
+    let mut list = readings();
+    list.retain(|reading| reading.name.contains(&part));
+    reading_table("Set lists read", &mut lanes, &list);
 }

@@ -5,6 +5,10 @@
 //! force implementation, and compares the answers and every word of every
 //! buffer, the words around the lent buffers too. For accepted pairs it also
 //! runs complement union on another pair with the same union columns and T.
+//! Each case also reads a generated set list, sound in half of the cases, and
+//! the list that complement union made, if it was done: this has to give the
+//! sets, and what is read of any accepted list, written again by document 01's
+//! layout, has to be the list.
 //!
 //! At the first difference it prints the whole input as hexadecimal words and
 //! exits with status 1. At the end it prints one line with the number of calls
@@ -13,9 +17,11 @@
 #[cfg(feature = "product")]
 use fusion_bench::ffi::Product;
 use fusion_bench::generate::{self, Pair, Rng};
+use fusion_bench::lists::{self, Entry, List};
 use fusion_bench::naive::{Naive, SUBSET_ROWS};
 use fusion_bench::reference::Reference;
-use fusion_bench::{Answer, Call, Unions, MAX_SET_WORDS, MAX_TABLE_WORDS};
+use fusion_bench::{Answer, Call, Reader, Unions};
+use fusion_bench::{MAX_READ_WORDS, MAX_SET_WORDS, MAX_TABLE_WORDS, READ_NAME};
 use std::collections::BTreeMap;
 use std::env;
 use std::process::exit;
@@ -64,6 +70,28 @@ impl State {
     }
 }
 
+/// All that the reader can change.
+#[derive(Clone, PartialEq)]
+struct ReadState {
+    number: u32,
+    words: Lent,
+    answer: Lent,
+}
+
+impl ReadState {
+    fn new(rng: &mut Rng, length: usize, answer: usize) -> ReadState {
+        ReadState {
+            number: !0,
+            words: Lent::new(rng, length),
+            answer: Lent::new(rng, answer),
+        }
+    }
+
+    fn read(&mut self, reader: &mut dyn Reader, list: &[u32], rows: u32) {
+        self.number = reader.read(list, rows, self.words.words(), self.answer.words());
+    }
+}
+
 struct Differential {
     reference: Reference,
     #[cfg(feature = "product")]
@@ -80,6 +108,11 @@ struct Differential {
     at_limit: u64,
     rows_left_out: u64,
     shared_joined: u64,
+    /// Buffer for finding out how many words a list takes.
+    words: Vec<u32>,
+    read_outcomes: BTreeMap<u32, u64>,
+    made_lists: u64,
+    most_words: u32,
 }
 
 fn print_words(name: &str, words: &[u32]) {
@@ -149,6 +182,68 @@ impl Input<'_> {
     }
 }
 
+/// One call of the reader with all its inputs.
+struct ReadInput<'a> {
+    seed: u64,
+    case: u64,
+    list: &'a List,
+    before: &'a ReadState,
+}
+
+impl ReadInput<'_> {
+    fn print(&self, name: &str) {
+        println!(
+            "difference: {name}, {READ_NAME}, seed {} case {} ({})",
+            self.seed, self.case, self.list.kind
+        );
+        print_words("list", &self.list.words);
+        println!("rows {}", self.list.rows);
+    }
+
+    fn again(&self) -> ! {
+        println!("again: differential {} 1 {}", self.seed, self.case);
+        exit(1);
+    }
+
+    /// Compares the states after two implementations ran; does not return if
+    /// they differ.
+    fn compare(&self, name: &str, expected: &ReadState, found: &ReadState) {
+        if expected == found {
+            return;
+        }
+        let mut before = self.before.clone();
+        let (mut wanted, mut given) = (expected.clone(), found.clone());
+        self.print(name);
+        print_words("words before", before.words.words());
+        print_words("answer before", before.answer.words());
+        println!("expected result {}", expected.number);
+        println!("found result    {}", found.number);
+        print_words("expected answer", wanted.answer.words());
+        print_words("found answer   ", given.answer.words());
+        print_difference("words", &expected.words, &found.words);
+        print_difference("answer", &expected.answer, &found.answer);
+        self.again();
+    }
+
+    /// What was read has to be these entries, and the list again in document
+    /// 01's layout; does not return if it is not.
+    fn check_entries(&self, sets: u32, words: &[u32], wanted: Option<&[Entry]>) {
+        let entries = lists::entries(sets, words);
+        let same = match &entries {
+            Some(entries) => {
+                lists::layout(entries) == self.list.words
+                    && wanted.is_none_or(|wanted| wanted == entries)
+            }
+            None => false,
+        };
+        if !same {
+            self.print("not the sets of the list");
+            print_words("words", words);
+            self.again();
+        }
+    }
+}
+
 impl Differential {
     fn new() -> Differential {
         Differential {
@@ -166,6 +261,10 @@ impl Differential {
             at_limit: 0,
             rows_left_out: 0,
             shared_joined: 0,
+            words: vec![0; MAX_READ_WORDS],
+            read_outcomes: BTreeMap::new(),
+            made_lists: 0,
+            most_words: 0,
         }
     }
 
@@ -210,8 +309,84 @@ impl Differential {
         expected
     }
 
+    /// Reads a list with all implementations. Returns the state afterwards.
+    fn compare_read(&mut self, input: &ReadInput, check_naive: bool) -> ReadState {
+        let (list, rows) = (input.list.words.clone().into_boxed_slice(), input.list.rows);
+        let mut expected = input.before.clone();
+        expected.read(&mut self.reference, &list, rows);
+        #[cfg(feature = "product")]
+        {
+            let mut found = input.before.clone();
+            found.read(&mut self.product, &list, rows);
+            input.compare("product", &expected, &found);
+            if list[..] != input.list.words[..] {
+                println!("the product changed the list");
+                input.compare("product", &expected, input.before);
+            }
+        }
+        if check_naive {
+            self.naive_calls += 1;
+            let mut found = input.before.clone();
+            found.read(&mut Naive::default(), &list, rows);
+            input.compare("brute force", &expected, &found);
+        }
+        expected
+    }
+
+    /// The reader's answer with a buffer that is long enough for every list.
+    fn full_read(&mut self, list: &List) -> Answer {
+        fusion_bench::reference::read_set_list(&list.words, list.rows, &mut self.words)
+    }
+
+    /// Reads a generated list. `made` is one of complement union.
+    fn list_case(&mut self, rng: &mut Rng, (seed, case): (u64, u64), made: Option<List>) {
+        let list = lists::any_list(rng, made);
+        let full = self.full_read(&list);
+        let length = generate::buffer_length(rng, full.words as usize);
+        let answer = generate::answer_length(rng);
+        let before = ReadState::new(rng, length, answer);
+        let input = ReadInput {
+            seed,
+            case,
+            list: &list,
+            before: &before,
+        };
+        let check_naive = list.words.len() < 200 || rng.chance(1, 8);
+        let mut after = self.compare_read(&input, check_naive);
+        *self.read_outcomes.entry(after.number).or_insert(0) += 1;
+        if after.number == 0 {
+            self.most_words = self.most_words.max(full.words);
+            let written = &after.words.words()[..full.words as usize];
+            input.check_entries(full.sets, written, None);
+        }
+    }
+
+    /// Reads the list that complement union made of sets, with a buffer that is
+    /// long enough.
+    fn made_case(&mut self, rng: &mut Rng, (seed, case): (u64, u64), list: &List, sets: &[Entry]) {
+        self.made_lists += 1;
+        let full = self.full_read(list);
+        let extra = rng.below(4);
+        let before = ReadState::new(rng, full.words as usize + extra, fusion_bench::ANSWER_WORDS);
+        let input = ReadInput {
+            seed,
+            case,
+            list,
+            before: &before,
+        };
+        let mut after = self.compare_read(&input, rng.chance(1, 8));
+        let answer = after.answer.words().to_vec();
+        let written = &after.words.words()[..answer[3] as usize];
+        if after.number != 0 {
+            input.print("a list of complement union is refused");
+            input.again();
+        }
+        input.check_entries(answer[6], written, Some(sets));
+    }
+
     fn case(&mut self, seed: u64, case: u64) {
         let mut rng = Rng::for_case(seed, case);
+        let mut made = None;
         let pair = generate::any_pair(&mut rng);
         let union = self.full_answer(Call::Outer, &pair);
         let union_image = self.table[..union.words as usize].to_vec();
@@ -276,7 +451,28 @@ impl Differential {
                 let again = self.compare_call(&input, false);
                 input.compare("pair with the same T", &after, &again);
             }
+            if call == Call::Complement && full.number == 0 {
+                made = Some(self.made_list(&pair, union.rows));
+            }
         }
+        let place = (seed, case);
+        let made = made.map(|(list, sets)| {
+            self.made_case(&mut rng, place, &list, &sets);
+            list
+        });
+        self.list_case(&mut rng, place, made);
+    }
+
+    /// The list that complement union makes of an accepted pair, and the sets
+    /// that the reference made it of.
+    fn made_list(&mut self, pair: &Pair, rows: u32) -> (List, Vec<Entry>) {
+        let answer = self.full_answer(Call::Complement, pair);
+        let list = List {
+            kind: "made by complement union",
+            words: self.sets[..answer.set_words as usize].to_vec(),
+            rows,
+        };
+        (list, self.reference.sets_found().collect())
     }
 
     fn report(&self, cases: u64) {
@@ -295,6 +491,17 @@ impl Differential {
                 None => missing.push(name),
             }
         }
+        let mut read_outcomes = Vec::new();
+        for number in [0, 12, 13, 14, 10] {
+            let name = match number {
+                0 => "done".to_string(),
+                _ => number.to_string(),
+            };
+            match self.read_outcomes.get(&number) {
+                Some(count) => read_outcomes.push(format!("{name} {count}")),
+                None => missing.push(format!("{name} of the reader")),
+            }
+        }
         let compared = if cfg!(feature = "product") {
             "product and reference equal"
         } else {
@@ -302,7 +509,8 @@ impl Differential {
         };
         println!(
             "{compared}: {cases} cases, {} calls ({}); {} by brute force, {} pairs with the same T, \
-             T up to {} rows, sets up to {}, 1,024 sets {}, subsumed rows {}, shared joined rows {}{}",
+             T up to {} rows, sets up to {}, 1,024 sets {}, subsumed rows {}, shared joined rows {}; \
+             set lists read: {} ({}), up to {} words, {} of complement union{}",
             self.calls,
             outcomes.join(", "),
             self.naive_calls,
@@ -312,6 +520,10 @@ impl Differential {
             self.at_limit,
             self.rows_left_out,
             self.shared_joined,
+            self.read_outcomes.values().sum::<u64>(),
+            read_outcomes.join(", "),
+            self.most_words,
+            self.made_lists,
             if missing.is_empty() {
                 String::new()
             } else {

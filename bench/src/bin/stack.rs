@@ -17,9 +17,11 @@ compile_error!("the stack measurement switches stacks with x86-64 instructions")
 #[cfg(feature = "product")]
 use fusion_bench::ffi::Product;
 use fusion_bench::generate::Pair;
+use fusion_bench::lists::List;
 use fusion_bench::reference::Reference;
-use fusion_bench::workloads::{growth_with_rows, growth_with_sets, workloads};
-use fusion_bench::{Call, Unions, MAX_SET_WORDS, MAX_TABLE_WORDS};
+use fusion_bench::workloads::{growth_with_rows, growth_with_sets, readings, workloads};
+use fusion_bench::{Call, Library, Reader, Unions, READ_NAME};
+use fusion_bench::{MAX_READ_WORDS, MAX_SET_WORDS, MAX_TABLE_WORDS};
 use std::arch::asm;
 use std::hint::black_box;
 
@@ -47,27 +49,54 @@ impl Unions for Empty {
     }
 }
 
+impl Reader for Empty {
+    #[inline(never)]
+    fn read(&mut self, list: &[u32], rows: u32, words: &mut [u32], answer: &mut [u32]) -> u32 {
+        black_box((list, rows, words, answer));
+        0
+    }
+}
+
+/// A call with its input.
+#[derive(Clone, Copy)]
+enum Input<'a> {
+    Union(Call, &'a Pair),
+    Read(&'a List),
+}
+
+/// The lent buffers.
+struct Buffers {
+    table: Vec<u32>,
+    sets: Vec<u32>,
+    words: Vec<u32>,
+    answer: Vec<u32>,
+}
+
 /// What is run on the painted stack.
 struct Task<'a> {
-    unions: &'a mut dyn Unions,
-    call: Call,
-    pair: &'a Pair,
-    table: &'a mut [u32],
-    sets: &'a mut [u32],
-    answer: &'a mut [u32],
+    library: &'a mut dyn Library,
+    input: Input<'a>,
+    buffers: &'a mut Buffers,
 }
 
 extern "C" fn run_task(task: *mut Task) {
     // SAFETY: `on_region` passes a task that outlives the call.
     let task = unsafe { &mut *task };
-    task.unions.run(
-        task.call,
-        &task.pair.first,
-        &task.pair.second,
-        task.table,
-        task.sets,
-        task.answer,
-    );
+    let lent = &mut *task.buffers;
+    match task.input {
+        Input::Union(call, pair) => task.library.run(
+            call,
+            &pair.first,
+            &pair.second,
+            &mut lent.table,
+            &mut lent.sets,
+            &mut lent.answer,
+        ),
+        Input::Read(list) => {
+            let (words, answer) = (&mut lent.words, &mut lent.answer);
+            task.library.read(&list.words, list.rows, words, answer)
+        }
+    };
 }
 
 /// Runs the task with its stack at the end of the region.
@@ -110,43 +139,56 @@ fn measure(region: &mut [u64], task: &mut Task) -> usize {
 
 fn main() {
     let mut region = vec![PATTERN; REGION_BYTES / 8];
-    let mut table = vec![0; MAX_TABLE_WORDS];
-    let mut sets = vec![0; MAX_SET_WORDS];
-    let mut answer = [0; fusion_bench::ANSWER_WORDS];
-    let mut lanes: Vec<(&str, Box<dyn Unions>)> = vec![
+    let mut buffers = Buffers {
+        table: vec![0; MAX_TABLE_WORDS],
+        sets: vec![0; MAX_SET_WORDS],
+        words: vec![0; MAX_READ_WORDS],
+        answer: vec![0; fusion_bench::ANSWER_WORDS],
+    };
+    let mut lanes: Vec<(&str, Box<dyn Library>)> = vec![
         ("empty call", Box::new(Empty)),
         ("reference", Box::new(Reference::new())),
         #[cfg(feature = "product")]
         ("product", Box::new(Product)),
     ];
-    let mut inputs = workloads();
-    inputs.extend(growth_with_rows());
-    inputs.extend(growth_with_sets());
+    let mut unions = workloads();
+    unions.extend(growth_with_rows());
+    unions.extend(growth_with_sets());
+    let reads = readings();
+    // For each call its inputs, with the names of their workloads.
+    let mut calls: Vec<(&str, Vec<(&str, Input)>)> = Vec::new();
+    for call in Call::ALL {
+        let inputs = unions.iter().flat_map(|workload| {
+            let pairs = workload.pairs.iter().take(VARIANTS);
+            pairs.map(move |pair| (&workload.name[..], Input::Union(call, pair)))
+        });
+        calls.push((call.name(), inputs.collect()));
+    }
+    let inputs = reads.iter().flat_map(|reading| {
+        let lists = reading.lists.iter().take(VARIANTS);
+        lists.map(|list| (&reading.name[..], Input::Read(list)))
+    });
+    calls.push((READ_NAME, inputs.collect()));
 
     println!("| implementation | call | deepest stack, bytes | on workload |");
     println!("|---|---|---:|---|");
-    for (name, unions) in &mut lanes {
-        for call in Call::ALL {
+    for (name, library) in &mut lanes {
+        for (call, inputs) in &calls {
             let mut deepest = 0;
             let mut worst = "";
-            for workload in &inputs {
-                for pair in workload.pairs.iter().take(VARIANTS) {
-                    let mut task = Task {
-                        unions: &mut **unions,
-                        call,
-                        pair,
-                        table: &mut table,
-                        sets: &mut sets,
-                        answer: &mut answer,
-                    };
-                    let bytes = measure(&mut region, &mut task);
-                    if bytes > deepest {
-                        deepest = bytes;
-                        worst = &workload.name;
-                    }
+            for &(workload, input) in inputs {
+                let mut task = Task {
+                    library: &mut **library,
+                    input,
+                    buffers: &mut buffers,
+                };
+                let bytes = measure(&mut region, &mut task);
+                if bytes > deepest {
+                    deepest = bytes;
+                    worst = workload;
                 }
             }
-            println!("| {name} | {} | {deepest} | {worst} |", call.name());
+            println!("| {name} | {call} | {deepest} | {worst} |");
         }
     }
 }

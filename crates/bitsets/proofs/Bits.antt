@@ -1,7 +1,7 @@
 -- The positions of sets that are numbers: of an intersection, of a set with one more, of a list of bits; those below a bound; the lowest,
 -- and the others. Two numbers with the same positions are equal. Assumes nothing.
 use mathlib.Core.Path.{_≡_, refl, sym, ap, ap₂, _∙_, subst}
-use mathlib.Core.Bool.{Bool, true, false, cond, not, _&&_, _||_, Bool·beq}
+use mathlib.Core.Bool.{Bool, true, false, not, _&&_, _||_, Bool·beq}
 use mathlib.Core.Logic.{⊎-elim}
 use mathlib.Core.List.{List}
 use Prim.Native.Nat.{ℕ, zero, suc, _-_, _*_, _/_, _%_, _^_, _≤_, _<_}
@@ -16,6 +16,7 @@ use borrow.Author.Tests.{eqb-true, eqb-false, eq-eqb, ltb-true, ltb-false}
 use Rattle.definitions.specs.ComplementUnion.{contains}
 use Rattle.definitions.specs.SetList.{bits}
 use Rattle.definitions.proofs.SetWords.{bit-marks}
+use Rattle.definitions.proofs.Reading.{one-marks}
 use Rattle.definitions.proofs.Bools.{bool-cases, bool-eq, clash, not-so, and-l, and-r, and-i, or-l, or-r, or-cases}
 use Rattle.bitsets.specs.Bits.{has, both, either, isSub, butNot, withRow, onlyOne, rowsBelow, Inside, lowest, withoutLowest}
 
@@ -208,13 +209,9 @@ sub-of a b f = eq-eqb (both a b) a (same-set (both a b) a (both-l a b) (λ k p. 
 
 -- ---- a list of bits
 
-bit-eqb : (m : Bool) → eqb (cond m 1 0) 1 ≡ m
-bit-eqb true = refl
-bit-eqb false = refl
-
 pub has-bits : (s : List Bool) (k : ℕ) → has (bits s) k ≡ contains s k
 unfolding has
-has-bits s k = ap (λ (x : ℕ). eqb x 1) (bit-marks s k) ∙ bit-eqb (contains s k)
+has-bits s k = ap (λ (x : ℕ). eqb x 1) (bit-marks s k) ∙ one-marks (contains s k)
 
 -- ---- the lowest position
 

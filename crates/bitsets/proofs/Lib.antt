@@ -1,5 +1,6 @@
--- Laws of sets of positions: what is in them (Bits), how many they are (Sizes), and their order (Order).
+-- Laws of sets of positions: what is in them (Bits), how many they are (Sizes), their order (Order), and their list (Positions).
 pub mod Bits
 pub mod Order
+pub mod Positions
 pub mod Sizes
 pub mod Words

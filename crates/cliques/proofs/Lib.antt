@@ -1,6 +1,5 @@
 -- The theory of the search: maximal sets of a part of the rows, all of them found once and in bounded work, and those of all parts.
 pub mod Sublists
-pub mod Tabulate
 pub mod Maximal
 pub mod Adds
 pub mod Run

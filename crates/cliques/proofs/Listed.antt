@@ -7,11 +7,12 @@ use native.Mathlib.Omega.{arith}
 use lib.Dec.{ltb}
 use lib.ListN.{length}
 use borrow.Author.Tests.{ltb-true, ltb-false, not-false}
-use Rattle.definitions.specs.Lists.{allBelow}
+use Rattle.definitions.specs.Lists.{allBelow, tabulate}
 use Rattle.definitions.specs.ComplementUnion.{contains, adjacentToAll, maximalSets}
 use Rattle.definitions.specs.SetList.{bits}
 use Rattle.definitions.specs.Statements.{Member, StrictlyAscending}
 use Rattle.definitions.specs.Claims.{Holds, Maximal}
+use Rattle.definitions.proofs.Tabulate.{tabulate-length, tabulate-at, tabulate-below}
 use Rattle.definitions.proofs.Bools.{bool-cases, clash, not-so}
 use Rattle.definitions.proofs.Lists.{member-map, map-member, below-true, below-false}
 use Rattle.definitions.proofs.Orders.{sets}
@@ -21,7 +22,6 @@ use Rattle.cliques.specs.Maximal.{Max}
 use Rattle.bitsets.proofs.Bits.{has-ext, has-bits, below-of, below-in}
 use Rattle.bitsets.proofs.Order.{setBits, set-order}
 use Rattle.cliques.proofs.Sublists.{strict-map}
-use Rattle.cliques.proofs.Tabulate.{tabulate, tabulate-length, tabulate-at, tabulate-below}
 
 -- the definition's sets as numbers
 abbrev pub listed : (ℕ → ℕ → Bool) → ℕ → List ℕ

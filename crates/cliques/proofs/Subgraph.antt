@@ -7,17 +7,17 @@ use native.Mathlib.Omega.{arith}
 use lib.Dec.{eqb}
 use lib.ListN.{length, length-map}
 use borrow.Author.Tests.{eqb-true, eq-eqb, not-true, not-false}
-use Rattle.definitions.specs.Lists.{allBelow}
+use Rattle.definitions.specs.Lists.{allBelow, tabulate}
 use Rattle.definitions.specs.ComplementUnion.{contains, maximalSets}
 use Rattle.definitions.specs.Statements.{Member}
 use Rattle.definitions.specs.Claims.{Holds, Complementing, Maximal}
+use Rattle.definitions.proofs.Tabulate.{tabulate-length, tabulate-at, tabulate-pass}
 use Rattle.definitions.proofs.Bools.{bool-eq, bool-cases, clash, not-so, and-l, and-r, and-i}
 use Rattle.definitions.proofs.Lists.{member-map, below-true, below-false}
 use Rattle.definitions.proofs.Orders.{sets}
 use Rattle.definitions.proofs.Sets.{holds-within, marks-ext, listed-is, listed-rise}
 use Rattle.definitions.proofs.Completion.{completion}
 use Rattle.cliques.proofs.Sublists.{no-longer}
-use Rattle.cliques.proofs.Tabulate.{tabulate, tabulate-length, tabulate-at, tabulate-pass}
 
 module _ (adjacent : ℕ → ℕ → Bool) (n : ℕ) (symmetric : (j k : ℕ) → j < n → k < n → adjacent j k ≡ true → adjacent k j ≡ true) where
   -- m rows are kept, the j-th of them row `row j`

@@ -1,5 +1,4 @@
 // Runs of complement union: each case's answer, the words written, and how many of the words past them are as found, in both buffers.
-mod fan;
 mod many;
 mod paper;
 mod room;

@@ -1,7 +1,7 @@
 // Complement union at its limit of 1,024 sets.
-use crate::fan;
 use run_cases::call::Call;
 use run_cases::cases::part;
+use run_cases::fan;
 use run_cases::image;
 use run_cases::print;
 

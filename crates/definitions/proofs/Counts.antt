@@ -17,7 +17,7 @@ use Rattle.definitions.specs.Ascending.{put, insert, ascending}
 use Rattle.definitions.specs.OuterUnion.{compareRow}
 use Rattle.definitions.specs.MinimumUnion.{subsumes, minimumRows, tries, pairsTried}
 use Rattle.definitions.specs.ComplementUnion.{joined, unionSets, fusedRows}
-use Rattle.definitions.specs.SetList.{bits, marksFrom, setRecord, setList}
+use Rattle.definitions.specs.SetList.{bits, marksFrom, recordOf, setRecord, listOf, setList}
 use Rattle.definitions.specs.Statements.{Member}
 use Rattle.definitions.proofs.Bools.{bool-cases}
 use Rattle.definitions.proofs.Lists.{map-member, sum-bound, filter-length}
@@ -46,15 +46,19 @@ unfolding marksFrom
 marks-length zero set = refl
 marks-length (suc n) set = ap suc (marks-length n (set / 2 ^ 30))
 
-pub record-length : (rows : List (List ℕ)) (s : List Bool) → length (setRecord rows s) ≡ setWidth
+pub record-length : (m set position : ℕ) → length (recordOf m set position) ≡ suc m
+unfolding recordOf
+record-length m set position = length-append (marksFrom m set) _ ∙ omega (arith, marks-length m set)
+
+pub set-record-length : (rows : List (List ℕ)) (s : List Bool) → length (setRecord rows s) ≡ setWidth
 unfolding setRecord
-record-length rows s = length-append (marksFrom markWords (bits s)) _ ∙ ap (λ (k : ℕ). k + 1) (marks-length markWords (bits s))
+set-record-length rows s = record-length markWords (bits s) _
 
 pub set-list-length : (rows : List (List ℕ)) → length (setList rows) ≡ 1 + setWidth * length (unionSets rows)
-unfolding setList
+unfolding setList listOf
 set-list-length rows =
     let f = flatten-length setWidth (map (setRecord rows) (unionSets rows))
-    (λ r h. let i = map-member (setRecord rows) r (unionSets rows) h in ap (λ (l : List ℕ). length l) (i .2) ∙ record-length rows (i .0)) in
+    (λ r h. let i = map-member (setRecord rows) r (unionSets rows) h in ap (λ (l : List ℕ). length l) (i .2) ∙ set-record-length rows (i .0)) in
     let m = length-map (unionSets rows) (setRecord rows) in
     omega arith
 

@@ -9,7 +9,7 @@ use Rattle.definitions.specs.Ascending.{insert, ascending}
 use Rattle.definitions.specs.OuterUnion.{compareRow, unionIds, widened, widenedRows, unionRows}
 use Rattle.definitions.specs.MinimumUnion.{filled, covers, subsumes, minimumRows, tries, pairsTried}
 use Rattle.definitions.specs.ComplementUnion.{sameRow, agree, share, complement, contains, subsets, adjacentToAll, isComplementing, isMaximal, maximalSets, members, join, joinAll, joined, unionSets, fusedRows}
-use Rattle.definitions.specs.SetList.{bits, marksFrom, setRecord, setList}
+use Rattle.definitions.specs.SetList.{bits, marksFrom, recordOf, setRecord, listOf, setList}
 use Rattle.definitions.specs.Questions.{imageNumber}
 use Rattle.definitions.specs.Calls.{pairOutcome, fusedImage, complementOutcome}
 use Rattle.definitions.specs.Reading.{positionsOf}
@@ -62,7 +62,7 @@ output =
 pub worked-example : fuseText board plant ≡ output
 unfolding flatten all any filter findIndex distinct allBelow sumBelow imageOf insert ascending compareRow unionIds widened widenedRows unionRows
     filled covers subsumes minimumRows tries pairsTried sameRow agree share complement contains subsets adjacentToAll isComplementing isMaximal
-    maximalSets members join joinAll joined unionSets fusedRows bits marksFrom setRecord setList imageNumber pairOutcome fusedImage
+    maximalSets members join joinAll joined unionSets fusedRows bits marksFrom recordOf setRecord listOf setList imageNumber pairOutcome fusedImage
     complementOutcome wordsOf digits decimal cellText line positionsOf unionText minimumText setsText fusedText listing unionsText
     readText fuseText
 worked-example = refl

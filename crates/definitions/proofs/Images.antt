@@ -4,10 +4,10 @@ use mathlib.Core.Path.{_≡_, refl, sym, _∙_, ap, ap₂}
 use mathlib.Core.Logic.{inl, inr, ⊎-elim}
 use mathlib.Core.List.{List, [], _∷_, _++_, map, flatten, append-nil, append-assoc}
 use Prim.Native.Nat.{ℕ, zero, suc, _+_, _*_, _^_, _<_, _≤_}
-use native.Mathlib.Nat.{suc-mul}
+use native.Mathlib.Nat.{add-comm, suc-mul, zero-mul}
 use native.Mathlib.Omega.{arith}
 use lib.ListN.{length, take, drop, length-append, length-drop, length-map}
-use lib.Seq.{length-take-le, take-at, drop-at}
+use lib.Seq.{length-take-le, take-add, take-at, drop-at}
 use Rattle.definitions.specs.Limits.{maxRows, maxUnionRows}
 use Rattle.definitions.specs.Word.{rowsOf, columnsOf, headerWord, idOf, columnWord}
 use Rattle.definitions.specs.Image.{columnCount, rowCount, columnWords, imageIds, cellWords, rowsIn, imageRows, imageOf}
@@ -20,7 +20,7 @@ use Rattle.definitions.specs.Calls.{Accepted}
 
 -- ---- the image of a table
 
-header-columns : (r c : ℕ) → c < 2 ^ 5 → columnsOf (headerWord r c) ≡ c
+pub header-columns : (r c : ℕ) → c < 2 ^ 5 → columnsOf (headerWord r c) ≡ c
 header-columns r c h = omega arith
 
 pub header-rows : (r c : ℕ) → r < 2 ^ 12 → c < 2 ^ 5 → rowsOf (headerWord r c) ≡ r
@@ -76,18 +76,28 @@ module _ (ids : List ℕ) (rows : List (List ℕ)) (few : length ids < 2 ^ 5) wh
   pub image-rows : length rows < 2 ^ 12 → ((r : List ℕ) → Member r rows → length r ≡ length ids) → imageRows (imageOf ids rows) ≡ rows
   image-rows g f = ap imageRows (sym (append-nil (imageOf ids rows))) ∙ image-rows-front [] g f
 
--- ---- an image that passes
+-- the words of the first n rows
+pub words-rows : (c n : ℕ) (words : List ℕ) → flatten (rowsIn c n words) ≡ take (n * c) words
+unfolding flatten
+words-rows c zero words = sym (rw zero-mul)
+words-rows c (suc n) words =
+    ap (λ (r : List ℕ). take c words ++ r) (words-rows c n (drop c words))
+    ∙ sym (take-add c (n * c) words)
+    ∙ ap (λ (k : ℕ). take k words) (add-comm c (n * c) ∙ sym (suc-mul n c))
 
-rows-count : (c n : ℕ) (words : List ℕ) → length (rowsIn c n words) ≡ n
-rows-count c zero words = refl
-rows-count c (suc n) words = ap suc (rows-count c n (drop c words))
+pub rows-length : (c n : ℕ) (words : List ℕ) → length (rowsIn c n words) ≡ n
+rows-length c zero words = refl
+rows-length c (suc n) words = ap suc (rows-length c n (drop c words))
 
-rows-long : (c n : ℕ) (words : List ℕ) → length words ≡ n * c → (r : List ℕ) → Member r (rowsIn c n words) → length r ≡ c
-rows-long c zero words e r h = absurd h
-rows-long c (suc n) words e r h =
+-- rows cut from enough words have c cells each
+pub rows-wide : (c n : ℕ) (words : List ℕ) → n * c ≤ length words → (r : List ℕ) → Member r (rowsIn c n words) → length r ≡ c
+rows-wide c zero words e r h = absurd h
+rows-wide c (suc n) words e r h =
     let s = suc-mul n c in
     ⊎-elim (λ q. ap (λ (l : List ℕ). length l) q ∙ length-take-le c words (omega arith))
-    (λ q. rows-long c n (drop c words) (length-drop c words ∙ omega arith) r q) h
+    (λ q. rows-wide c n (drop c words) (omega (arith, length-drop c words)) r q) h
+
+-- ---- an image that passes
 
 module _ (limit : ℕ) (image : List ℕ) (p : Passed limit image) where
   pub passed-ids : length (imageIds image) ≡ columnCount image
@@ -97,15 +107,15 @@ module _ (limit : ℕ) (image : List ℕ) (p : Passed limit image) where
 
   pub passed-rows : (r : List ℕ) → Member r (imageRows image) → length r ≡ columnCount image
   passed-rows r h =
-      rows-long (columnCount image) (rowCount image) (cellWords image)
-      (length-drop (1 + columnCount image) image ∙ omega (arith, p .all-words)) r h
+      rows-wide (columnCount image) (rowCount image) (cellWords image)
+      (omega (arith, length-drop (1 + columnCount image) image, p .all-words)) r h
 
 -- ---- an accepted pair
 
 pub widened-count : (union image : List ℕ) → length (widenedRows union image) ≡ rowCount image
 unfolding widenedRows
 widened-count union image =
-    length-map (imageRows image) (widened union (imageIds image)) ∙ rows-count (columnCount image) (rowCount image) (cellWords image)
+    length-map (imageRows image) (widened union (imageIds image)) ∙ rows-length (columnCount image) (rowCount image) (cellWords image)
 
 pub accepted-rows : (a b : List ℕ) → Accepted a b → length (unionRows a b) ≤ maxUnionRows
 unfolding unionRows

@@ -1,17 +1,14 @@
 -- Laws of lines: what follows the first field, and how long lines are. Assumes nothing.
-use mathlib.Core.Path.{_≡_, refl, sym, _∙_, ap}
-use mathlib.Core.Bool.{Bool, true, false, cond}
-use mathlib.Core.Logic.{inl, inr, ⊎-elim}
+use mathlib.Core.Path.{_≡_, refl, ap}
+use mathlib.Core.Logic.{inl, inr}
 use mathlib.Core.List.{List, [], _∷_, _++_, map, flatten}
 use Prim.Native.Nat.{ℕ, suc, _+_, _*_, _^_, _≤_, _<_}
 use native.Mathlib.Nat.{suc-mul, zero-mul}
 use native.Mathlib.Omega.{arith}
 use lib.ListN.{length, length-append, length-map}
-use Rattle.definitions.specs.Reading.{positionsOf}
 use Rattle.definitions.specs.Text.{ascii, decimal, cellText}
 use Rattle.definitions.specs.Listing.{line, titleLine, rowLine, setLine, refusedLine}
 use Rattle.definitions.specs.Statements.{Member}
-use Rattle.definitions.proofs.Ascending.{member-split}
 use Rattle.definitions.proofs.Lists.{map-member}
 use Rattle.definitions.proofs.Digits.{decimal-length}
 use Rattle.definitions.proofs.Cells.{cell-length}
@@ -119,19 +116,6 @@ set-bound ps place h k =
       length-append (decimal place) (10 ∷ []),
       decimal-length 3 place k,
     )
-
-pub positions-count : (from : ℕ) (s : List Bool) → length (positionsOf from s) ≤ length s
-unfolding positionsOf
-positions-count from [] = omega arith
-positions-count from (true ∷ s) = omega (arith, positions-count (suc from) s)
-positions-count from (false ∷ s) = omega (arith, positions-count (suc from) s)
-
-pub positions-small : (from : ℕ) (s : List Bool) (p : ℕ) → Member p (positionsOf from s) → p < from + length s
-unfolding positionsOf
-positions-small from [] p h = absurd h
-positions-small from (true ∷ s) p h =
-    ⊎-elim (λ e. omega arith) (λ k. omega (arith, positions-small (suc from) s p k)) h
-positions-small from (false ∷ s) p h = omega (arith, positions-small (suc from) s p h)
 
 -- ---- a refusal's line
 

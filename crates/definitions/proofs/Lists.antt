@@ -49,9 +49,20 @@ module _ {A B : Type 0} where
   map-at f d e (x ∷ l) zero h = refl
   map-at f d e (x ∷ l) (suc k) h = map-at f d e l k (le-of-suc-le-suc h)
 
--- ---- some element
+-- ---- every element, some element
 
 module _ {A : Type 0} (p : A → Bool) where
+  pub all-true : (l : List A) → all p l ≡ true → (x : A) → Member x l → p x ≡ true
+  unfolding all
+  all-true [] e x h = absurd h
+  all-true (y ∷ l) e x h =
+      ⊎-elim (λ q. ap p q ∙ and-l (p y) (all p l) e) (λ r. all-true l (and-r (p y) (all p l) e) x r) h
+
+  pub all-of : (l : List A) → ((x : A) → Member x l → p x ≡ true) → all p l ≡ true
+  unfolding all
+  all-of [] f = refl
+  all-of (y ∷ l) f = and-i (f y (inl refl)) (all-of l (λ x h. f x (inr h)))
+
   pub any-true : (l : List A) → any p l ≡ true → (x : A) × Member x l × (p x ≡ true)
   unfolding any
   any-true [] e = absurd (clash refl (sym e))

@@ -5,6 +5,7 @@ use mathlib.Core.List.{List, [], _∷_, _++_, map}
 use Prim.Native.Nat.{ℕ, zero, suc, _<_}
 use native.Mathlib.Omega.{arith}
 use lib.Dec.{ltb}
+use lib.ListN.{length}
 use borrow.Author.Tests.{lt-ltb, le-ltb, ltb-true, ltb-false}
 use Rattle.definitions.specs.declared.Order.{Order}
 use Rattle.definitions.specs.declared.Order.the-variants.{Before, Same, After}
@@ -173,6 +174,17 @@ set-trans (false ∷ s) (false ∷ t) (false ∷ u) e f = set-trans s t u e f
 
 pub sets : Orders compareSet
 sets = record { same = set-same; self = set-self; flip = set-flip; trans = set-trans }
+
+-- the same positions behind two sets of one length leave their order
+pub set-behind : (s t rest : List Bool) → length s ≡ length t → compareSet (s ++ rest) (t ++ rest) ≡ compareSet s t
+unfolding compareSet
+set-behind [] [] rest e = set-self rest
+set-behind [] (m ∷ t) rest e = absurd (omega arith)
+set-behind (m ∷ s) [] rest e = absurd (omega arith)
+set-behind (true ∷ s) (true ∷ t) rest e = set-behind s t rest (omega arith)
+set-behind (true ∷ s) (false ∷ t) rest e = refl
+set-behind (false ∷ s) (true ∷ t) rest e = refl
+set-behind (false ∷ s) (false ∷ t) rest e = set-behind s t rest (omega arith)
 
 -- ---- all sets, in set order
 

@@ -12,14 +12,14 @@ use borrow.Author.Tests.{leb-true, le-leb, lt-leb}
 use Rattle.definitions.specs.Limits.{maxColumns, maxRows, maxSets}
 use Rattle.definitions.specs.OuterUnion.{unionIds, unionRows}
 use Rattle.definitions.specs.MinimumUnion.{filled, minimumRows, pairsTried}
-use Rattle.definitions.specs.ComplementUnion.{unionSets, fusedRows}
+use Rattle.definitions.specs.ComplementUnion.{unionSets}
 use Rattle.definitions.specs.SetList.{setList}
 use Rattle.definitions.specs.Questions.{imageNumber}
 use Rattle.definitions.specs.Answer.{Outcome, done, refused, unless, no}
 use Rattle.definitions.specs.Claims.{TableDone, ComplementDone}
-use Rattle.definitions.specs.Calls.{Accepted, pairOutcome, tableRoom, outerImage, minimumImage, fusedImage, outerOutcome, minimumOutcome, complementOutcome}
+use Rattle.definitions.specs.Calls.{Accepted, pairOutcome, enoughRoom, outerImage, minimumImage, fusedImage, outerOutcome, minimumOutcome, complementOutcome}
 
-unless-done : (number table : ℕ) (rest : Outcome) (values : List ℕ) → unless number table rest ≡ done values → (number ≡ 0) × (rest ≡ done values)
+pub unless-done : (number table : ℕ) (rest : Outcome) (values : List ℕ) → unless number table rest ≡ done values → (number ≡ 0) × (rest ≡ done values)
 unless-done zero table rest values e = (refl, e)
 unless-done (suc number) table rest values e = absurd (let z : _≡_ {A = ℕ} 0 1 = cc in omega arith)
 
@@ -35,10 +35,10 @@ no-yes : (b : Bool) (number : ℕ) → no b (suc number) ≡ 0 → b ≡ true
 no-yes true number e = refl
 no-yes false number e = absurd (omega arith)
 
-within-done : (x y number : ℕ) → no (leb x y) (suc number) ≡ 0 → x ≤ y
+pub within-done : (x y number : ℕ) → no (leb x y) (suc number) ≡ 0 → x ≤ y
 within-done x y number e = leb-true x y (no-yes (leb x y) number e)
 
-within-passed : (x y number : ℕ) → x ≤ y → no (leb x y) number ≡ 0
+pub within-passed : (x y number : ℕ) → x ≤ y → no (leb x y) number ≡ 0
 within-passed x y number h = ap (λ (b : Bool). no b number) (le-leb x y h)
 
 -- a question with a number other than 0 on the result, by its test
@@ -66,17 +66,17 @@ accepted-done a b rest values e =
 
 -- ---- outer union and minimum union, done
 
-same-values : (counts values : List ℕ) → done counts ≡ done values → values ≡ counts
+pub same-values : (counts values : List ℕ) → done counts ≡ done values → values ≡ counts
 same-values counts values e = cc
 
-table-done : (a b image : List ℕ) (room : ℕ) (counts values : List ℕ) → (pairOutcome a b (tableRoom image room (done counts)) ≡ done values) ↔ TableDone a b image room counts values
+table-done : (a b image : List ℕ) (room : ℕ) (counts values : List ℕ) → (pairOutcome a b (enoughRoom image room (done counts)) ≡ done values) ↔ TableDone a b image room counts values
 table-done a b image room counts values = (
   λ e.
-      let p = accepted-done a b (tableRoom image room (done counts)) values e in
+      let p = accepted-done a b (enoughRoom image room (done counts)) values e in
       let q = unless-done (no (leb (length image) room) 10) 2 (done counts) values (p .1) in
       record { accepted = p .0; table-room = within-done (length image) room 9 (q .0); carries = same-values counts values (q .1) },
   λ d.
-      accepted-on a b (tableRoom image room (done counts)) (d .accepted)
+      accepted-on a b (enoughRoom image room (done counts)) (d .accepted)
       ∙ unless-passed (no (leb (length image) room) 10) 2 (done counts) (within-passed (length image) room 10 (d .table-room))
       ∙ ap done (sym (d .carries)),
 )

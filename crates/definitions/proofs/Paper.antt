@@ -13,7 +13,7 @@ use Rattle.definitions.specs.Ascending.{insert, ascending}
 use Rattle.definitions.specs.OuterUnion.{compareRow, unionIds, widened, widenedRows, unionRows}
 use Rattle.definitions.specs.MinimumUnion.{filled, covers, subsumes, minimumRows}
 use Rattle.definitions.specs.ComplementUnion.{sameRow, agree, share, complement, contains, subsets, adjacentToAll, isComplementing, isMaximal, maximalSets, members, join, joinAll, joined, unionSets, fusedRows}
-use Rattle.definitions.specs.SetList.{bits, marksFrom, setRecord, setList}
+use Rattle.definitions.specs.SetList.{bits, marksFrom, recordOf, setRecord, listOf, setList}
 use Rattle.definitions.specs.Questions.{imageNumber}
 use Rattle.definitions.specs.Answer.{Outcome, done, refused}
 use Rattle.definitions.specs.Calls.{pairOutcome, outerImage, minimumImage, fusedImage, complementOutcome}
@@ -295,6 +295,6 @@ right c =
 paper : all right cases ≡ true
 unfolding pairRight firstRow hasRows againRight counts right all any filter findIndex distinct allBelow sumBelow imageOf flatten insert ascending
     compareRow unionIds widened widenedRows unionRows filled covers subsumes minimumRows sameRow agree share complement contains subsets
-    adjacentToAll isComplementing isMaximal maximalSets members join joinAll joined unionSets fusedRows bits marksFrom setRecord setList
+    adjacentToAll isComplementing isMaximal maximalSets members join joinAll joined unionSets fusedRows bits marksFrom recordOf setRecord listOf setList
     imageNumber pairOutcome outerImage minimumImage fusedImage complementOutcome
 paper = refl

@@ -19,7 +19,7 @@ use Rattle.definitions.specs.Calls.{Accepted, outerImage, fusedImage, co
 use Rattle.definitions.specs.Reading.{setCount}
 use Rattle.definitions.specs.Statements.{Member, StrictlyAscending}
 use Rattle.definitions.specs.Demand3.{listedSets, positionAt, Demand3, MeetsDemand3, tableWords, setWords}
-use Rattle.definitions.specs.Promise.{TablePromise, OuterPromise, ComplementPromise, SameCalls}
+use Rattle.definitions.specs.Promise.{BufferPromise, OuterPromise, ComplementPromise, SameCalls}
 use Rattle.definitions.specs.Claims.{TableDone, ComplementDone}
 use Rattle.definitions.proofs.Lists.{member-get}
 use Rattle.definitions.proofs.Counts.{fused-count}
@@ -116,7 +116,7 @@ module _ (a b table sets : List ℕ) (answer : Outcome) (tableAfter setsAfter : 
 -- ---- the words that a call has written, and those past them
 
 -- the words of a result that an answer writes: all, or on a refusal none
-abbrev writtenWords : Outcome → List ℕ → List ℕ
+abbrev pub writtenWords : Outcome → List ℕ → List ℕ
 writtenWords (done values) result = result
 writtenWords (refused number table) result = []
 
@@ -160,7 +160,7 @@ module _ {a b table sets : List ℕ} {answer : Outcome} {tableAfter setsAfter : 
   table-front : take (tableWords answer) tableAfter ≡ writtenWords answer (fusedImage a b)
   table-front = front answer (fusedImage a b) table tableAfter (p .writes) (tableWords answer) table-size
 
-  set-front : take (setWords answer) setsAfter ≡ writtenWords answer (setList (unionRows a b))
+  pub set-front : take (setWords answer) setsAfter ≡ writtenWords answer (setList (unionRows a b))
   set-front = front answer (setList (unionRows a b)) sets setsAfter (p .lists) (setWords answer) set-size
 
   -- "Words past the written ones stay as found."
@@ -204,7 +204,7 @@ says-same (complement.Refused number table) (complement.Refused number' table') 
 
 -- "a refusal changes no word of a lent buffer"
 pub refusal-keeps : {outcome : Outcome} {image table tableAfter : List ℕ} (number k : ℕ)
-    → TablePromise outcome image table (refused number k) tableAfter → tableAfter ≡ table
+    → BufferPromise outcome image table (refused number k) tableAfter → tableAfter ≡ table
 refusal-keeps number k p = p .writes
 
 pub refusal-keeps-both : {a b table sets tableAfter setsAfter : List ℕ} (number k : ℕ)

@@ -3,7 +3,7 @@ use mathlib.Core.Path.{_≡_, refl, _∙_, ap}
 use mathlib.Core.Bool.{Bool, true, false, _&&_}
 use mathlib.Core.Logic.{_↔_}
 use mathlib.Core.List.{List}
-use Prim.Native.Nat.{ℕ, suc, _<_, _≤_}
+use Prim.Native.Nat.{ℕ, suc}
 use native.Mathlib.Omega.{arith}
 use lib.Dec.{eqb, leb, ltb}
 use lib.ListN.{length}
@@ -16,9 +16,12 @@ use Rattle.definitions.specs.Questions.{ask, imageNumber}
 use Rattle.definitions.specs.Claims.{Passed}
 use Rattle.definitions.proofs.Bools.{and-l, and-r, and-i}
 
-ask-passed : (b : Bool) (number rest : ℕ) → ask b (suc number) rest ≡ 0 → (b ≡ true) × (rest ≡ 0)
+pub ask-passed : (b : Bool) (number rest : ℕ) → ask b (suc number) rest ≡ 0 → (b ≡ true) × (rest ≡ 0)
 ask-passed true number rest e = (refl, e)
 ask-passed false number rest e = absurd (omega arith)
+
+pub asks : (b : Bool) (number rest : ℕ) → b ≡ true → rest ≡ 0 → ask b number rest ≡ 0
+asks b number rest e f = ap (λ (x : Bool). ask x number rest) e ∙ f
 
 pub passed-is : (limit : ℕ) (image : List ℕ) → (imageNumber limit image ≡ 0) ↔ Passed limit image
 unfolding imageNumber
@@ -44,9 +47,6 @@ passed-is limit image = (to, from)
           distinct-ids = q6 .0;
           cell-words = q7 .0;
         }
-
-    asks : (b : Bool) (number rest : ℕ) → b ≡ true → rest ≡ 0 → ask b number rest ≡ 0
-    asks b number rest e f = ap (λ (x : Bool). ask x number rest) e ∙ f
 
     from : Passed limit image → imageNumber limit image ≡ 0
     from p =

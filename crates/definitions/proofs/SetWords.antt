@@ -13,7 +13,7 @@ use Rattle.definitions.specs.Limits.{markWords}
 use Rattle.definitions.specs.Lists.{findIndex}
 use Rattle.definitions.specs.Word.{wordOf}
 use Rattle.definitions.specs.ComplementUnion.{sameRow, contains, joined, unionSets, fusedRows}
-use Rattle.definitions.specs.SetList.{bits, marksFrom, fusedPosition, setRecord}
+use Rattle.definitions.specs.SetList.{bits, marksFrom, fusedPosition, recordOf, setRecord}
 use Rattle.definitions.specs.Statements.{Member}
 use Rattle.definitions.proofs.Orders.{rows}
 use Rattle.definitions.proofs.Lists.{findIndex-found, findIndex-at, findIndex-strict}
@@ -24,7 +24,7 @@ use Rattle.definitions.proofs.Counts.{marks-length}
 module _ (t : List (List ℕ)) where
   -- "and one of kind 1 with the joined row's position in the fused table"
   pub row-word : (s : List Bool) → getD (setRecord t s) markWords 0 ≡ wordOf 1 (fusedPosition t s)
-  unfolding setRecord
+  unfolding setRecord recordOf
   row-word s = getD-at (marksFrom markWords (bits s)) (wordOf 1 (fusedPosition t s)) [] 0 markWords (marks-length markWords (bits s))
 
   -- the joined row of a listed set stands at its position
@@ -86,7 +86,7 @@ mark-word (suc n) set (suc i) h =
 
 -- "three of kind 2 whose low 30 bits mark positions 0–29, 30–59 and 60–63 (lowest bit first ..)"
 pub mark-bit : (t : List (List ℕ)) (s : List Bool) (i j : ℕ) → i < markWords → j < 30 → getD (setRecord t s) i 0 / 2 ^ j % 2 ≡ cond (contains s (30 * i + j)) 1 0
-unfolding setRecord
+unfolding setRecord recordOf
 mark-bit t s i j h g =
     let x = bits s / 2 ^ (30 * i) in
     let e : suc (29 - j) + j ≡ 30 = omega arith in

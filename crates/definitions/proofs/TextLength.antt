@@ -1,8 +1,8 @@
 -- The text of `fuse` is never longer than a number over the limits, so that a buffer of that length takes every output whole. Assumes
 -- nothing.
-use mathlib.Core.Path.{_≡_, refl, sym, _∙_, ap, subst}
+use mathlib.Core.Path.{_≡_, refl}
 use mathlib.Core.Bool.{Bool, true, false}
-use mathlib.Core.Logic.{inl, inr, ⊎-elim}
+use mathlib.Core.Logic.{⊎-elim}
 use mathlib.Core.List.{List, [], _∷_, _++_, map, flatten}
 use Prim.Native.Nat.{ℕ, zero, suc, _+_, _*_, _-_, _%_, _^_, _≤_, _<_}
 use native.Mathlib.Nat.{mul-le-mul}
@@ -21,12 +21,12 @@ use Rattle.definitions.specs.Calls.{pairOutcome, fusedImage, complementO
 use Rattle.definitions.specs.Reading.{positionsOf}
 use Rattle.definitions.specs.Text.{ascii}
 use Rattle.definitions.specs.Listing.{line, columnsLine, unionTitle, minimumTitle, setsTitle, fusedTitle}
-use Rattle.definitions.specs.Listing.{rowLine, setLine, raggedLine}
+use Rattle.definitions.specs.Listing.{rowLine, setLine}
 use Rattle.definitions.specs.Program.{rowLines, setLines, unionText, minimumText, setsText, fusedText, listing}
 use Rattle.definitions.specs.Program.{maxBytes, wordsOf, lentTable, lentSets, unlessRefused, unionsText, readText, fuseText}
 use Rattle.definitions.specs.Program.{rowBytes, setBytes, maxText}
 use Rattle.definitions.specs.Statements.{Member}
-use Rattle.definitions.specs.Claims.{ComplementDone, empties}
+use Rattle.definitions.specs.Claims.{ComplementDone}
 use Rattle.definitions.proofs.Bools.{bool-cases}
 use Rattle.definitions.proofs.Subsumption.{filled-empties}
 use Rattle.definitions.proofs.Minimum.{minimum-is}
@@ -37,7 +37,8 @@ use Rattle.definitions.proofs.Images.{accepted-rows}
 use Rattle.definitions.proofs.Reading.{listed-length, listed-position}
 use Rattle.definitions.proofs.TableWords.{small-ids}
 use Rattle.definitions.proofs.Lines.{at-most-map, flatten-bound, title-bound, row-bound, refused-bound}
-use Rattle.definitions.proofs.Lines.{set-bound, positions-count, positions-small}
+use Rattle.definitions.proofs.Lines.{set-bound}
+use Rattle.definitions.proofs.Positions.{positions-within, positions-count}
 
 -- ---- the listing of an accepted pair
 
@@ -105,7 +106,7 @@ module _ (a b : List ℕ) (room setRoom : ℕ) (values : List ℕ) (d : Compleme
       let one : (s : List Bool) → Member s sets → length (setLine (positionsOf 0 s) (fusedPosition T s)) ≤ setBytes =
       λ s h.
       let size = listed-length T [] s h in
-      let small : (p : ℕ) → Member p (positionsOf 0 s) → p < 10 ^ 2 = λ p k. omega (arith, positions-small 0 s p k) in
+      let small : (p : ℕ) → Member p (positionsOf 0 s) → p < 10 ^ 2 = λ p k. omega (arith, positions-within 0 s p k .1) in
       let place = set-bound (positionsOf 0 s) (fusedPosition T s) small (omega (arith, listed-position T [] few s h)) in
       omega (arith, place, positions-count 0 s) in
       let line-of : List Bool → List ℕ = λ s. setLine (positionsOf 0 s) (fusedPosition T s) in

@@ -6,9 +6,11 @@ use lib.ListN.{length, drop}
 use Rattle.definitions.specs.declared.OuterAnswer.{OuterAnswer}
 use Rattle.definitions.specs.declared.MinimumAnswer.{MinimumAnswer}
 use Rattle.definitions.specs.declared.ComplementAnswer.{ComplementAnswer}
+use Rattle.definitions.specs.declared.ReadAnswer.{ReadAnswer}
 use Rattle.definitions.specs.declared.OuterAnswer.the-variants as outer
 use Rattle.definitions.specs.declared.MinimumAnswer.the-variants as minimum
 use Rattle.definitions.specs.declared.ComplementAnswer.the-variants as complement
+use Rattle.definitions.specs.declared.ReadAnswer.the-variants as read
 
 -- an answer of this paper: done with its values, or a refusal with its number and table
 pub data Outcome : Type 0 where
@@ -29,6 +31,11 @@ minimumSays (minimum.Refused number table) = refused number table
 abbrev pub complementSays : ComplementAnswer → Outcome
 complementSays (complement.Done rows words filled sets setWords) = done (rows ∷ words ∷ filled ∷ sets ∷ setWords ∷ [])
 complementSays (complement.Refused number table) = refused number table
+
+-- request A1: "the done answer carries the sets and the words written"
+abbrev pub readSays : ReadAnswer → Outcome
+readSays (read.Done sets words) = done (sets ∷ words ∷ [])
+readSays (read.Refused number table) = refused number table
 
 -- a number is a refusal with its table, 0 goes on
 abbrev pub unless : ℕ → ℕ → Outcome → Outcome

@@ -32,6 +32,10 @@ minimumWords = answerWords (λ values. values ++ 0 ∷ 0 ∷ 0 ∷ [])
 abbrev pub complementWords : Outcome → List ℕ
 complementWords = answerWords (λ values. take 3 values ++ 0 ∷ drop 3 values ++ 0 ∷ [])
 
+-- request A1: no rows, the words written, no filled cells and no pairs tried, the sets
+abbrev pub listWords : Outcome → List ℕ
+listWords = answerWords (λ values. 0 ∷ drop 1 values ++ 0 ∷ 0 ∷ take 1 values ++ 0 ∷ 0 ∷ [])
+
 -- a buffer with the words over its front, as far as they fit: the rest is as found
 abbrev pub putOver : List ℕ → List ℕ → List ℕ
 putOver words found = take (length found) words ++ drop (length words) found

@@ -26,9 +26,9 @@ pub record Accepted (a b : List ℕ) : Type 0 where
   pub second : imageNumber maxRows b ≡ 0
   pub columns : length (unionIds a b) ≤ maxColumns
 
--- "Has the table buffer as many words as the result image?" `room` counts the words of the buffer
-abbrev pub tableRoom : List ℕ → ℕ → Outcome → Outcome
-tableRoom image room rest = unless (no (leb (length image) room) 10) 2 rest
+-- "Has the table buffer as many words as the result image?" `room` counts the words of the buffer that the result is written into
+abbrev pub enoughRoom : List ℕ → ℕ → Outcome → Outcome
+enoughRoom result room rest = unless (no (leb (length result) room) 10) 2 rest
 
 -- the results: images with the union's columns
 unfoldable pub outerImage : List ℕ → List ℕ → List ℕ
@@ -43,13 +43,13 @@ fusedImage a b = imageOf (unionIds a b) (fusedRows (unionRows a b))
 unfoldable pub outerOutcome : List ℕ → List ℕ → ℕ → Outcome
 outerOutcome a b room =
     pairOutcome a b
-    (tableRoom (outerImage a b) room
+    (enoughRoom (outerImage a b) room
     (done (length (unionRows a b) ∷ length (outerImage a b) ∷ filled (flatten (unionRows a b)) ∷ [])))
 
 unfoldable pub minimumOutcome : List ℕ → List ℕ → ℕ → Outcome
 minimumOutcome a b room =
     pairOutcome a b
-    (tableRoom (minimumImage a b) room
+    (enoughRoom (minimumImage a b) room
     (done (length (minimumRows (unionRows a b)) ∷ length (minimumImage a b)
     ∷ filled (flatten (minimumRows (unionRows a b))) ∷ pairsTried (unionRows a b) ∷ [])))
 
@@ -58,7 +58,7 @@ unfoldable pub complementOutcome : List ℕ → List ℕ → ℕ → ℕ → Out
 complementOutcome a b room setRoom =
     pairOutcome a b
     (unless (no (leb (length (unionSets (unionRows a b))) maxSets) 9) 2
-    (tableRoom (fusedImage a b) room
+    (enoughRoom (fusedImage a b) room
     (unless (no (leb (length (setList (unionRows a b))) setRoom) 11) 2
     (done (length (fusedRows (unionRows a b)) ∷ length (fusedImage a b) ∷ filled (flatten (fusedRows (unionRows a b)))
     ∷ length (unionSets (unionRows a b)) ∷ length (setList (unionRows a b)) ∷ [])))))

@@ -3,21 +3,23 @@
 use mathlib.Core.Path.{_≡_}
 use mathlib.Core.Bool.{Bool, true, false, cond}
 use mathlib.Core.Logic.{_⊎_}
-use mathlib.Core.List.{List, [], _∷_, flatten}
+use mathlib.Core.List.{List, [], _∷_, map, flatten}
 use Prim.Native.Nat.{ℕ, _+_, _≤_, _<_}
 use lib.Dec.{eqb}
 use lib.ListN.{length, getD}
-use Rattle.definitions.specs.Limits.{maxColumns, maxSets}
+use Rattle.definitions.specs.Limits.{maxColumns, maxSets, markWords}
 use Rattle.definitions.specs.Lists.{all, distinct}
 use Rattle.definitions.specs.Word.{isFilled, isCell}
 use Rattle.definitions.specs.Image.{header, columnCount, rowCount, isHeader, isColumn, columnWords, imageIds, cellWords}
 use Rattle.definitions.specs.Image.{imageRows, imageLength}
 use Rattle.definitions.specs.OuterUnion.{unionIds, widened, unionRows}
 use Rattle.definitions.specs.MinimumUnion.{filled, subsumes, minimumRows}
-use Rattle.definitions.specs.ComplementUnion.{contains, joined, unionSets, fusedRows}
+use Rattle.definitions.specs.ComplementUnion.{contains, compareSet, joined, unionSets, fusedRows}
 use Rattle.definitions.specs.SetList.{setList}
 use Rattle.definitions.specs.Calls.{Accepted, fusedImage}
-use Rattle.definitions.specs.Statements.{Member}
+use Rattle.definitions.specs.Reading.{setCount, recordsIn, setIn}
+use Rattle.definitions.specs.ReadBack.{isSetList, isRecord, readWords}
+use Rattle.definitions.specs.Statements.{Member, StrictlyAscending}
 
 -- ---- demand 1: which calls are refused
 
@@ -48,6 +50,18 @@ pub record ComplementDone (a b : List ℕ) (room setRoom : ℕ) (values : List �
   pub carries : values
       ≡ length (fusedRows (unionRows a b)) ∷ length (fusedImage a b) ∷ filled (flatten (fusedRows (unionRows a b)))
       ∷ length (unionSets (unionRows a b)) ∷ length (setList (unionRows a b)) ∷ []
+
+-- request A1: a yes to each of the checks 12, 13 and 14
+pub record AcceptedList (rows : ℕ) (list : List ℕ) : Type 0 where
+  pub listed : isSetList markWords rows list ≡ true
+  pub records : all (isRecord markWords rows) (recordsIn markWords list) ≡ true
+  pub ordered : StrictlyAscending compareSet (map (setIn markWords) (recordsIn markWords list))
+
+-- the reader of a set list
+pub record ReadDone (list : List ℕ) (rows room : ℕ) (values : List ℕ) : Type 0 where
+  pub accepted : AcceptedList rows list
+  pub words-room : length (readWords markWords list) ≤ room
+  pub carries : values ≡ setCount list ∷ length (readWords markWords list) ∷ []
 
 -- ---- demand 2: rows
 

@@ -10,7 +10,7 @@ use Rattle.definitions.specs.Image.{imageRows}
 use Rattle.definitions.specs.OuterUnion.{compareRow, unionRows}
 use Rattle.definitions.specs.MinimumUnion.{subsumes, minimumRows}
 use Rattle.definitions.specs.ComplementUnion.{complement, compareSet, members, joined}
-use Rattle.definitions.specs.Reading.{setCount, recordsIn, setIn, positionIn}
+use Rattle.definitions.specs.Reading.{setCount, recordsIn, setIn, joinedPosition}
 use Rattle.definitions.specs.Answer.{Outcome, done, refused}
 use Rattle.definitions.specs.Statements.{Member, StrictlyAscending}
 
@@ -36,7 +36,7 @@ listedSets T sets = map (λ words. take (length T) (setIn markWords words)) (rec
 
 -- the position in the fused table that the record at k names
 abbrev pub positionAt : List ℕ → ℕ → ℕ
-positionAt sets k = positionIn markWords (getD (recordsIn markWords sets) k [])
+positionAt sets k = joinedPosition markWords (getD (recordsIn markWords sets) k [])
 
 -- t is "equal to or subsumed by a fused row"
 abbrev pub Covered : List ℕ → List ℕ → Type 0

@@ -1,4 +1,5 @@
--- The definitions of document 01, a file for each section, in its order. What the library promises is stated by these, and by nothing else.
+-- The definitions of document 01, a file for each section, in its order, and of the requests. What the library promises is
+-- stated by these, and by nothing else.
 pub mod Limits
 pub mod Lists
 pub mod Word
@@ -12,6 +13,7 @@ pub mod Questions
 pub mod Answer
 pub mod Calls
 pub mod Reading
+pub mod ReadBack
 pub mod Statements
 pub mod Claims
 pub mod Demand3

@@ -24,5 +24,9 @@ maxSets = 1024
 abbrev pub markWords : ℕ
 markWords = 3
 
+-- "whose low 30 bits mark positions"
+abbrev pub marksPerWord : ℕ
+marksPerWord = 30
+
 abbrev pub setWidth : ℕ
 setWidth = markWords + 1

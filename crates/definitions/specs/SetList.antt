@@ -1,9 +1,9 @@
 -- Document 01, "Complementation and complement union": the words of the set list.
 use Prim.Native.Nat.{ℕ, zero, suc, _+_, _*_, _/_, _%_, _^_}
-use mathlib.Core.Bool.{Bool, true, false, cond}
+use mathlib.Core.Bool.{Bool, cond}
 use mathlib.Core.List.{List, [], _∷_, _++_, map, flatten}
 use lib.ListN.{length}
-use Rattle.definitions.specs.Limits.{markWords, setWidth}
+use Rattle.definitions.specs.Limits.{markWords}
 use Rattle.definitions.specs.Lists.{findIndex}
 use Rattle.definitions.specs.Word.{wordOf, headerWord}
 use Rattle.definitions.specs.ComplementUnion.{sameRow, unionSets, joined, fusedRows}
@@ -22,9 +22,17 @@ marksFrom (suc n) set = wordOf 2 (set % 2 ^ 30) ∷ marksFrom n (set / 2 ^ 30)
 abbrev pub fusedPosition : List (List ℕ) → List Bool → ℕ
 fusedPosition rows s = findIndex (sameRow (joined rows s)) (fusedRows rows)
 
+-- a record: m mark words of a set, "and one of kind 1 with the joined row's position"
+unfoldable pub recordOf : ℕ → ℕ → ℕ → List ℕ
+recordOf m set position = marksFrom m set ++ (wordOf 1 position ∷ [])
+
 unfoldable pub setRecord : List (List ℕ) → List Bool → List ℕ
-setRecord rows s = marksFrom markWords (bits s) ++ (wordOf 1 (fusedPosition rows s) ∷ [])
+setRecord rows s = recordOf markWords (bits s) (fusedPosition rows s)
+
+-- "a header of kind 3 (bits 29 to 18 the number of sets, bits 4 to 0 the width ..), then" the records
+unfoldable pub listOf : ℕ → List (List ℕ) → List ℕ
+listOf m records = headerWord (length records) (suc m) ∷ flatten records
 
 -- "The set list is a header of kind 3 .. then 4 words a set"
 unfoldable pub setList : List (List ℕ) → List ℕ
-setList rows = headerWord (length (unionSets rows)) setWidth ∷ flatten (map (setRecord rows) (unionSets rows))
+setList rows = listOf markWords (map (setRecord rows) (unionSets rows))

@@ -2,6 +2,7 @@
 mod limits;
 
 pub use limits::MARK_WORDS;
+pub use limits::MARKS_PER_WORD;
 pub use limits::MAX_COLUMNS;
 pub use limits::MAX_IDS;
 pub use limits::MAX_ROWS;
@@ -56,6 +57,12 @@ pub enum ComplementAnswer {
         number: u32,
         table: u32,
     },
+}
+
+// The answer of the reader of set lists, with the number of sets and the words written.
+pub enum ReadAnswer {
+    Done { sets: usize, words: usize },
+    Refused { number: u32, table: u32 },
 }
 
 // The answer of the program's text: done with its length, or a buffer that is shorter than the longest text.

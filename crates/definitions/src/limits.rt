@@ -1,4 +1,5 @@
-// The limits of document 01 on tables, unions and sets, each by name, and here alone. specs/Limits has the same for the contracts.
+// The limits of document 01 on tables, unions and sets, each by name, and here alone. specs/Limits has the same for the
+// contracts.
 
 // The columns of a table, and of a union.
 pub const MAX_COLUMNS: usize = 16;
@@ -18,3 +19,6 @@ pub const MAX_SETS: usize = 1024;
 pub const MARK_WORDS: usize = 3;
 
 pub const SET_WIDTH: usize = MARK_WORDS + 1;
+
+// The positions that a mark word holds.
+pub const MARKS_PER_WORD: usize = 30;

@@ -13,7 +13,7 @@ use Rattle.definitions.specs.Listing.{raggedLine}
 use Rattle.definitions.specs.Program.{maxBytes, wordsOf, unionsText, readText, fuseText, maxText}
 use Rattle.definitions.proofs.Bools.{bool-cases}
 use Rattle.definitions.proofs.TextLength.{unions-bound, read-bound, text-bound}
-use Rattle.text.specs.Written.{Fits, Written}
+use Rattle.lists.specs.Written.{Fits, Written}
 use Rattle.definitions.specs.declared.TextAnswer.{TextAnswer}
 use Rattle.definitions.specs.declared.TextAnswer.the-variants.{Done, TooShort}
 use Rattle.definitions.specs.TextPromise.{TextPromise}

@@ -10,7 +10,7 @@ use Rattle.definitions.specs.Calls.{complementOutcome}
 use Rattle.definitions.specs.Promise.{ComplementPromise}
 use Rattle.definitions.specs.Listing.{setsTitle, fusedTitle}
 use Rattle.definitions.specs.Program.{maxText, wordsOf, lentTable, lentSets, setsText, fusedText}
-use Rattle.text.specs.Written.{Fits}
+use Rattle.lists.specs.Written.{Fits}
 use Rattle.listing.specs.Lines.{HasRows, tableLines, listLines}
 
 -- the first n words are those of the bytes

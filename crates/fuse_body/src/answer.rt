@@ -4,7 +4,7 @@ ghost use mathlib.Core.Path.{_≡_};
 ghost use lib.ListN.{length};
 ghost use Rattle.definitions.specs.TextPromise.{TextPromise};
 ghost use Rattle.definitions.specs.Program.{maxBytes, maxText, lentTable, unionsText, readText};
-ghost use Rattle.text.specs.Written.{Written};
+ghost use Rattle.lists.specs.Written.{Written};
 ghost use Rattle.fuse_body.specs.Parts.{Lent, FusedAnswer};
 use crate::file::WORD_BYTES;
 use crate::file::decode;

@@ -2,7 +2,7 @@
 ghost use mathlib.Core.Path.{_≡_};
 ghost use lib.ListN.{length};
 ghost use Rattle.definitions.specs.Program.{lentTable, unionText, minimumText, listing};
-ghost use Rattle.text.specs.Written.{Fits, Written};
+ghost use Rattle.lists.specs.Written.{Fits, Written};
 ghost use Rattle.fuse_body.specs.Parts.{Section, FusedWords};
 use definitions::MinimumAnswer;
 use definitions::OuterAnswer;

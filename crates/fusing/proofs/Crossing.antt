@@ -14,7 +14,8 @@ use Rattle.definitions.specs.Word.{isFilled}
 use Rattle.definitions.specs.ComplementUnion.{agree, complement}
 use Rattle.definitions.proofs.Patterns.{only}
 use Rattle.lists.proofs.Walks.{next, end}
-use Rattle.lists.proofs.Flat.{rows-length, rows-at}
+use Rattle.definitions.proofs.Images.{rows-length}
+use Rattle.lists.proofs.Flat.{rows-at}
 use Rattle.bitsets.specs.Bits.{wordBits, has, both, rowsBelow}
 use Rattle.bitsets.proofs.Bits.{has-both, has-or, has-none, below-in}
 use Rattle.patterns.specs.Columns.{blankOf, filledIn, ColumnsOf}

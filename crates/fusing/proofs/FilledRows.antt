@@ -5,8 +5,9 @@ use Prim.Native.Nat.{ℕ, _+_, _*_, _<_, _≤_}
 use native.Mathlib.Omega.{arith}
 use lib.ListN.{length, getD, drop}
 use lib.Seq.{getD-take, getD-drop}
+use Rattle.definitions.proofs.Images.{rows-length}
 use Rattle.definitions.specs.Image.{rowsIn}
-use Rattle.lists.proofs.Flat.{rows-length, row-fits}
+use Rattle.lists.proofs.Flat.{row-fits}
 use Rattle.bitsets.specs.Bits.{has}
 use Rattle.patterns.specs.Columns.{ColumnsOf}
 use Rattle.patterns.proofs.FilledRows.{filled-within}

@@ -6,6 +6,7 @@ use Prim.Native.Nat.{ℕ, suc, _*_, _≤_, min}
 use native.Mathlib.Omega.{arith}
 use lib.ListN.{length, take, length-map}
 use lib.Seq.{take-at}
+use Rattle.definitions.proofs.Images.{rows-length}
 use Rattle.definitions.specs.Limits.{maxSets}
 use Rattle.definitions.specs.Lists.{findIndex}
 use Rattle.definitions.specs.Image.{rowsIn}
@@ -13,7 +14,6 @@ use Rattle.definitions.specs.OuterUnion.{compareRow}
 use Rattle.definitions.specs.Ascending.{ascending}
 use Rattle.definitions.specs.ComplementUnion.{sameRow, joined, maximalSets, unionSets, fusedRows}
 use Rattle.definitions.specs.SetList.{bits, fusedPosition}
-use Rattle.lists.proofs.Flat.{rows-length}
 use Rattle.cliques.specs.Graph.{adjacent, Graph, AllSets}
 use Rattle.rows.specs.Indices.{rowsAt, Ordered}
 use Rattle.rows.proofs.Indices.{below-fit}

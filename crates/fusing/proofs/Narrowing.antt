@@ -9,11 +9,12 @@ use lib.Dec.{eqb}
 use lib.ListN.{length, getD, set, length-set}
 use lib.Seq.{getD-set-same, getD-set-other}
 use borrow.Author.Tests.{eqb-true, eqb-false}
+use Rattle.definitions.proofs.Images.{rows-length}
 use Rattle.definitions.specs.Limits.{maxUnionRows}
 use Rattle.definitions.specs.Word.{isFilled}
 use Rattle.definitions.specs.Image.{rowsIn}
 use Rattle.definitions.proofs.Bools.{bool-cases, clash}
-use Rattle.lists.proofs.Flat.{rows-length, rows-at}
+use Rattle.lists.proofs.Flat.{rows-at}
 use Rattle.bitsets.specs.Bits.{wordBits, has, both, withoutLowest}
 use Rattle.cliques.specs.Graph.{adjacent}
 use Rattle.bitsets.proofs.Bits.{Lowest, has-both, has-or}

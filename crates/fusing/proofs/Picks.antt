@@ -12,6 +12,7 @@ use lib.Dec.{eqb}
 use lib.ListN.{length, getD, take}
 use lib.Seq.{getD-take, ext-getD, length-take-le}
 use borrow.Author.Tests.{eqb-true, eqb-false, eq-eqb, ne-eqb}
+use Rattle.definitions.proofs.Images.{rows-length, rows-wide}
 use Rattle.definitions.specs.Word.{isFilled}
 use Rattle.definitions.specs.Image.{rowsIn}
 use Rattle.definitions.specs.ComplementUnion.{complementAt, members, joined, unionSets}
@@ -22,7 +23,7 @@ use Rattle.definitions.proofs.Bools.{bool-cases, and-l, and-r}
 use Rattle.definitions.proofs.Rows.{filled-cell, empty-cell, agree-at}
 use Rattle.definitions.proofs.Sets.{holds-within, listed-is}
 use Rattle.definitions.proofs.Joined.{members-are, members-agree, joined-some, joined-empty, joined-length}
-use Rattle.lists.proofs.Flat.{rows-length, rows-at, rows-wide}
+use Rattle.lists.proofs.Flat.{rows-at}
 use Rattle.bitsets.specs.Bits.{wordBits, has, both, lowest}
 use Rattle.bitsets.proofs.Bits.{Lowest, has-both, has-none, has-bits, lowest-one, trailing-lowest, is-lowest}
 use Rattle.patterns.specs.Columns.{filledIn, ColumnsOf}

@@ -10,6 +10,7 @@ use lib.ListN.{length, getD, set, take, drop, length-set, length-map, List·getD
 use lib.Seq.{paste, take-all, length-take-le, drop-drop, drop-set-lt, getD-take, getD-set-same, getD-set-other, set-getD}
 use borrow.Author.Count.{below-more}
 use borrow.Author.Tests.{eqb-true, eqb-false}
+use Rattle.definitions.proofs.Images.{rows-length}
 use Rattle.definitions.specs.Image.{rowsIn}
 use Rattle.definitions.specs.Lists.{findIndex}
 use Rattle.definitions.specs.ComplementUnion.{sameRow}
@@ -18,7 +19,7 @@ use Rattle.definitions.proofs.Bools.{bool-cases}
 use Rattle.definitions.proofs.Lists.{map-at, findIndex-strict}
 use Rattle.definitions.proofs.Orders.{rows}
 use Rattle.definitions.proofs.Rows.{same-is}
-use Rattle.lists.proofs.Flat.{rows-length, rows-at}
+use Rattle.lists.proofs.Flat.{rows-at}
 use Rattle.lists.proofs.Pastes.{Pasted, paste-turn}
 use Rattle.rows.specs.Indices.{rowAt, rowsAt, Below, AscendingIndices, Ordered}
 use Rattle.rows.proofs.Indices.{below-at}

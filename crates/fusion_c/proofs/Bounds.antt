@@ -13,10 +13,14 @@ use Rattle.definitions.specs.MinimumUnion.{filled, minimumRows}
 use Rattle.definitions.specs.ComplementUnion.{fusedRows}
 use Rattle.definitions.specs.Answer.{done}
 use Rattle.definitions.specs.Calls.{outerImage, minimumImage, fusedImage, outerOutcome, minimumOutcome, complementOutcome}
+use Rattle.definitions.specs.ReadBack.{readOutcome}
 use Rattle.definitions.proofs.Bools.{bool-cases}
 use Rattle.definitions.proofs.Counts.{fused-count, minimum-count, pairs-bound, set-list-length}
 use Rattle.definitions.proofs.Images.{accepted-rows}
 use Rattle.definitions.proofs.Outcomes.{outer-done, minimum-done, complement-done}
+use Rattle.definitions.proofs.ReadOutcome.{read-done}
+use Rattle.definitions.proofs.WrittenAgain.{accepted-form}
+use Rattle.definitions.proofs.ReadBound.{read-words-bound}
 use Rattle.definitions.proofs.Unions.{outer-length, minimum-length, fused-length}
 
 -- each number of the list is a word of 32 bits
@@ -78,3 +82,10 @@ module _ (a b : List ℕ) where
       let f = image-filled (unionIds a b) (fusedRows (unionRows a b)) in
       let l = set-list-length (unionRows a b) in
       subst FitWords (sym (d .carries)) (omega arith, (w, (omega arith, (omega arith, (omega arith, tt)))))
+
+pub read-fits : (list : List ℕ) (rows room : ℕ) (values : List ℕ) → readOutcome list rows room ≡ done values → FitWords values
+read-fits list rows room values e =
+    let d = read-done list rows room values .0 e in
+    let n = accepted-form (d .accepted) .few-sets in
+    let w = read-words-bound (d .accepted) in
+    subst FitWords (sym (d .carries)) (omega arith, (omega arith, tt))

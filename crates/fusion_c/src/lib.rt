@@ -1,14 +1,15 @@
-// The C interface of the three unions. A slice is a pointer and a length in C. Each call returns the number of its refusal, 0 for done,
-// and puts the words of its answer into `answer`, as far as they fit.
+// The C interface of the three unions and of the reader of set lists. A slice is a pointer and a length in C. Each call returns the
+// number of its refusal, 0 for done, and puts the words of its answer into `answer`, as far as they fit.
 mod answers;
 
-ghost use Rattle.definitions.specs.Promise.{OuterPromise, MinimumPromise, ComplementPromise};
-ghost use Rattle.definitions.specs.CInterface.{outerWords, minimumWords, complementWords, Answered};
+ghost use Rattle.definitions.specs.Promise.{OuterPromise, MinimumPromise, ComplementPromise, ReadPromise};
+ghost use Rattle.definitions.specs.CInterface.{outerWords, minimumWords, complementWords, listWords, Answered};
 use crate::answers::put_refusal;
 use crate::answers::put_words;
 use definitions::ComplementAnswer;
 use definitions::MinimumAnswer;
 use definitions::OuterAnswer;
+use definitions::ReadAnswer;
 
 #[no_mangle]
 pub extern "C" fn fusion_outer_union(
@@ -104,5 +105,25 @@ pub extern "C" fn fusion_complement_union(
             answer,
         ),
         ComplementAnswer::Refused { number, table } => put_refusal(number, table, answer),
+    }
+}
+
+#[no_mangle]
+pub extern "C" fn fusion_read_set_list(
+    list: &[u32],
+    rows: u32,
+    words: &mut [u32],
+    answer: &mut [u32],
+) -> u32
+    ensures { λ r. ⌜ Answered
+        (λ o. ReadPromise (now (list .entry)) rows (now (words .entry)) o (now (words .exit)))
+        listWords (now (answer .entry)) r (now (answer .exit)) ⌝ }
+{
+    match set_lists::read_set_list(list, rows, words) {
+        ReadAnswer::Done { sets, words } => put_words(
+            &[0, 0, 0, words as u32, 0, 0, sets as u32, 0, 0],
+            answer,
+        ),
+        ReadAnswer::Refused { number, table } => put_refusal(number, table, answer),
     }
 }

@@ -7,8 +7,8 @@ use Rattle.definitions.specs.Limits.{maxColumns, maxSets}
 use Rattle.definitions.specs.Image.{imageOf}
 use Rattle.definitions.specs.MinimumUnion.{filled}
 use Rattle.definitions.specs.Answer.{done, unless}
-use Rattle.definitions.specs.Calls.{tableRoom}
-use Rattle.definitions.specs.Promise.{TablePromise}
+use Rattle.definitions.specs.Calls.{enoughRoom}
+use Rattle.definitions.specs.Promise.{BufferPromise}
 use Rattle.rows.specs.Indices.{rowsAt, Fit}
 use Rattle.images.specs.declared.write.Put.{Put}
 
@@ -35,7 +35,7 @@ pub record WrittenImage (ids : List ℕ) (n : ℕ) (cells order : List ℕ) (m :
 -- what question 10 leaves of a call whose result is this image, with whatever values its answer carries beyond the counts
 pub record PutImage (ids : List ℕ) (rows : List (List ℕ)) (m : ℕ) (found : List ℕ) (r : Put) (after : List ℕ) : Type 0 where
   pub promise : (more : List ℕ)
-      → TablePromise
-      (tableRoom (imageOf ids rows) (length found) (done (length rows ∷ length (imageOf ids rows) ∷ filled (flatten rows) ∷ more)))
+      → BufferPromise
+      (enoughRoom (imageOf ids rows) (length found) (done (length rows ∷ length (imageOf ids rows) ∷ filled (flatten rows) ∷ more)))
       (imageOf ids rows) found
       (unless (r .number) 2 (done (m ∷ r .words ∷ r .filled ∷ more))) after

@@ -4,7 +4,7 @@ ghost use mathlib.Core.List.{map};
 ghost use lib.Dec.{eqb};
 ghost use Rattle.definitions.specs.Lists.{all, any, distinct};
 ghost use Rattle.definitions.specs.Word.{idOf, isCell};
-ghost use Rattle.definitions.specs.Image.{isHeader, isColumn};
+ghost use Rattle.definitions.specs.Image.{isColumn};
 ghost use Rattle.definitions.specs.Questions.{imageNumber};
 use definitions::MAX_COLUMNS;
 
@@ -13,16 +13,6 @@ mod write;
 pub use write::Put;
 pub use write::put_image;
 pub use write::write_image;
-
-// Whether a word is a header.
-fn is_header(w: u32) -> bool
-    ensures { λ r. ⌜ r ≡ isHeader w ⌝ }
-{
-    if words::kind(w) == 3 {
-        return words::header_spare(w) == 0;
-    }
-    false
-}
 
 // Whether a word may stand for a column.
 fn is_column(w: u32) -> bool
@@ -96,7 +86,7 @@ pub fn check_image(image: &[u32], max_rows: u32) -> u32
         return 1;
     }
     let h = image[0];
-    if !is_header(h) {
+    if !words::is_header(h) {
         return 1;
     }
     let columns = words::columns(h) as usize;

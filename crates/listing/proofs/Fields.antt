@@ -11,9 +11,10 @@ use Rattle.definitions.specs.Word.{idOf}
 use Rattle.definitions.specs.Text.{ascii, decimal}
 use Rattle.definitions.specs.Listing.{line, titleLine, columnsLine, raggedLine, refusedLine}
 use Rattle.definitions.proofs.Lines.{later, line-first}
-use Rattle.text.specs.Written.{space, newline, Fits, Written}
+use Rattle.lists.specs.Written.{Fits, Written}
+use Rattle.text.specs.Bytes.{space, newline}
 use Rattle.listing.specs.Lines.{idText}
-use Rattle.text.proofs.Writing.{Writing, starts, rest-as, fits-next, rest-fits, turns, ends-with}
+use Rattle.lists.proofs.Writing.{Writing, starts, rest-as, fits-next, rest-fits, turns, ends-with}
 
 -- ---- a line by its parts
 

@@ -8,15 +8,16 @@ use native.Mathlib.Omega.{arith}
 use lib.Dec.{eqb}
 use lib.ListN.{length, getD, drop, length-append, drop-of-length-le}
 use borrow.Author.Tests.{eq-eqb, ne-eqb}
-use Rattle.definitions.specs.Limits.{markWords}
-use Rattle.definitions.specs.Reading.{wordMarks, setIn, positionsOf, positionIn}
+use Rattle.definitions.specs.Limits.{markWords, marksPerWord}
+use Rattle.definitions.specs.Reading.{setIn, positionsOf, positionsIn, joinedPosition}
 use Rattle.definitions.specs.Text.{ascii, decimal}
 use Rattle.definitions.specs.Listing.{titleLine, setLine}
 use Rattle.definitions.proofs.Bools.{bool-cases}
-use Rattle.definitions.proofs.Reading.{marks-length, marks-drop}
-use Rattle.text.specs.Written.{space, Fits, Written}
-use Rattle.text.proofs.Writing.{Writing, starts, rest-as, fits-next, turns, ends}
-use Rattle.listing.specs.Lines.{positionText, positionsText, recordPositions, recordLine}
+use Rattle.definitions.proofs.Reading.{marks-count, marks-drop}
+use Rattle.lists.specs.Written.{Fits, Written}
+use Rattle.text.specs.Bytes.{space}
+use Rattle.lists.proofs.Writing.{Writing, starts, rest-as, fits-next, turns, ends}
+use Rattle.listing.specs.Lines.{positionText, positionsText, recordLine}
 use Rattle.listing.proofs.Fields.{line-next}
 
 -- ---- positions
@@ -45,19 +46,19 @@ positionsFrom words p = positionsText (positionsOf p (drop p (setIn markWords wo
 
 -- those before p are written
 pub record PositionsWritten (words b : List ℕ) (at p : ℕ) (m : List ℕ) (mid : ℕ) : Type 0 where
-  pub count : p ≤ wordMarks * markWords
-  pub writing : Writing b at (positionsText (recordPositions words)) (positionsFrom words p) m mid
+  pub count : p ≤ marksPerWord * markWords
+  pub writing : Writing b at (positionsText (positionsIn markWords words)) (positionsFrom words p) m mid
 
-pub positions-start : (words b : List ℕ) (at : ℕ) → Fits b at (positionsText (recordPositions words)) → PositionsWritten words b at 0 b at
-positions-start words b at h = record { count = omega arith; writing = starts b at (positionsText (recordPositions words)) h }
+pub positions-start : (words b : List ℕ) (at : ℕ) → Fits b at (positionsText (positionsIn markWords words)) → PositionsWritten words b at 0 b at
+positions-start words b at h = record { count = omega arith; writing = starts b at (positionsText (positionsIn markWords words)) h }
 
 module _ {words b m : List ℕ} {at p mid : ℕ} (w : PositionsWritten words b at p m mid) where
-  module _ (bit : ℕ) (h : p < wordMarks * markWords) (e : bit ≡ getD words (p / wordMarks) 0 / 2 ^ (p % wordMarks) % 2) where
-    next-position : Writing b at (positionsText (recordPositions words)) (positionText bit p ++ positionsFrom words (p + 1)) m mid
+  module _ (bit : ℕ) (h : p < marksPerWord * markWords) (e : bit ≡ getD words (p / marksPerWord) 0 / 2 ^ (p % marksPerWord) % 2) where
+    next-position : Writing b at (positionsText (positionsIn markWords words)) (positionText bit p ++ positionsFrom words (p + 1)) m mid
     next-position =
         let rest : List Bool = drop (p + 1) (setIn markWords words) in
         rest-as
-        (ap (λ (s : List Bool). positionsText (positionsOf p s)) (marks-drop (wordMarks * markWords) words p h)
+        (ap (λ (s : List Bool). positionsText (positionsOf p s)) (marks-drop (marksPerWord * markWords) words p h)
         ∙ ap (λ (x : ℕ). positionsText (positionsOf p (eqb x 1 ∷ rest))) (sym e)
         ∙ position-step bit p rest
         ∙ ap (λ (k : ℕ). positionText bit p ++ positionsText (positionsOf k rest)) (sym (add-one p)))
@@ -69,11 +70,11 @@ module _ {words b m : List ℕ} {at p mid : ℕ} (w : PositionsWritten words b a
     pub position-turn : {a : List ℕ} {end : ℕ} → Written m mid (positionText bit p) a end → PositionsWritten words b at (p + 1) a end
     position-turn q = record { count = omega arith; writing = turns (positionsFrom words (p + 1)) next-position q }
 
-  pub positions-end : wordMarks * markWords ≤ p → Written b at (positionsText (recordPositions words)) m mid
+  pub positions-end : marksPerWord * markWords ≤ p → Written b at (positionsText (positionsIn markWords words)) m mid
   unfolding positionsText positionsOf
   positions-end h =
       ends (rest-as (ap (λ (s : List Bool). positionsText (positionsOf p s))
-      (drop-of-length-le (setIn markWords words) {i = p} (omega (arith, marks-length (wordMarks * markWords) words)))) (w .writing))
+      (drop-of-length-le (setIn markWords words) {i = p} (omega (arith, marks-count (marksPerWord * markWords) words)))) (w .writing))
 
 -- ---- the line
 
@@ -89,8 +90,8 @@ set-text (p ∷ q ∷ ps) position =
     ∙ sym (append-assoc (decimal p) (space ∷ positionsText (q ∷ ps)) (titleLine (ascii ">") (position ∷ [])))
 
 -- of a record, with the position in its row word
-pub record-text : (words : List ℕ) (n : ℕ) → n ≡ positionIn markWords words
-    → recordLine words ≡ positionsText (recordPositions words) ++ titleLine (ascii ">") (n ∷ [])
+pub record-text : (words : List ℕ) (n : ℕ) → n ≡ joinedPosition markWords words
+    → recordLine words ≡ positionsText (positionsIn markWords words) ++ titleLine (ascii ">") (n ∷ [])
 record-text words n e =
-    set-text (recordPositions words) (positionIn markWords words)
-    ∙ ap (λ (k : ℕ). positionsText (recordPositions words) ++ titleLine (ascii ">") (k ∷ [])) (sym e)
+    set-text (positionsIn markWords words) (joinedPosition markWords words)
+    ∙ ap (λ (k : ℕ). positionsText (positionsIn markWords words) ++ titleLine (ascii ">") (k ∷ [])) (sym e)

@@ -7,11 +7,11 @@ use lib.ListN.{length, drop}
 use Rattle.definitions.specs.Limits.{setWidth, markWords}
 use Rattle.definitions.specs.Word.{idOf}
 use Rattle.definitions.specs.Image.{columnCount, imageIds, cellWords, rowsIn}
-use Rattle.definitions.specs.Reading.{setIn, positionIn, positionsOf}
+use Rattle.definitions.specs.Reading.{positionsIn, joinedPosition}
 use Rattle.definitions.specs.Text.{decimal}
 use Rattle.definitions.specs.Listing.{columnsLine, unionTitle, setLine}
 use Rattle.definitions.specs.Program.{rowLines}
-use Rattle.text.specs.Written.{space}
+use Rattle.text.specs.Bytes.{space}
 
 -- ---- a table
 
@@ -33,13 +33,9 @@ unionLines image rows filled = columnsLine (imageIds image) ++ (unionTitle rows 
 
 -- ---- the set list
 
--- the positions that the mark words of a record hold
-abbrev pub recordPositions : List ℕ → List ℕ
-recordPositions words = positionsOf 0 (setIn markWords words)
-
 -- the set line of a record
 abbrev pub recordLine : List ℕ → List ℕ
-recordLine words = setLine (recordPositions words) (positionIn markWords words)
+recordLine words = setLine (positionsIn markWords words) (joinedPosition markWords words)
 
 -- the lines of the first n records
 abbrev pub recordsLines : List ℕ → ℕ → List ℕ

@@ -3,21 +3,20 @@ ghost use Prim.Native.Nat.{_+_, _*_, _≤_};
 ghost use mathlib.Core.Path.{_≡_};
 ghost use mathlib.Core.List.{_++_};
 ghost use lib.ListN.{length};
-ghost use Rattle.definitions.specs.Limits.{setWidth};
+ghost use Rattle.definitions.specs.Limits.{markWords, setWidth};
+ghost use Rattle.definitions.specs.Reading.{positionsIn};
 ghost use Rattle.definitions.specs.Listing.{setsTitle};
-ghost use Rattle.text.specs.Written.{Fits, Written};
-ghost use Rattle.listing.specs.Lines.{positionText, positionsText, recordPositions, recordLine, recordsLines, listLines};
+ghost use Rattle.lists.specs.Written.{Fits, Written};
+ghost use Rattle.listing.specs.Lines.{positionText, positionsText, recordLine, recordsLines, listLines};
 use crate::lines::title_line;
 use definitions::MARK_WORDS;
+use definitions::MARKS_PER_WORD;
 use definitions::SET_WIDTH;
 use text::number_field;
 use words::low_bits;
 
-// The positions that a mark word holds.
-const WORD_POSITIONS: usize = 30;
-
 // The positions that the mark words of a record hold.
-const POSITIONS: usize = WORD_POSITIONS * MARK_WORDS;
+const POSITIONS: usize = MARKS_PER_WORD * MARK_WORDS;
 
 // The position and a space where its bit is 1, and nothing where it is 0.
 fn put_position(bit: u32, position: usize, out: &mut [u8], at: usize) -> usize
@@ -33,14 +32,14 @@ fn put_position(bit: u32, position: usize, out: &mut [u8], at: usize) -> usize
 // The positions that the mark words of a record hold, with a space behind each.
 fn put_positions(set: &[u32], out: &mut [u8], at: usize) -> usize
     requires { ⌜ length (now set) ≡ setWidth ⌝ }
-    requires { ⌜ Fits (now out) at (positionsText (recordPositions (now set))) ⌝ }
+    requires { ⌜ Fits (now out) at (positionsText (positionsIn markWords (now set))) ⌝ }
     ensures { λ r. ⌜ Written (now (out .entry)) at
-        (positionsText (recordPositions (now (set .entry)))) (now (out .exit)) r ⌝ }
+        (positionsText (positionsIn markWords (now (set .entry)))) (now (out .exit)) r ⌝ }
 {
     let mut end = at;
     let mut p = 0;
     while p < POSITIONS {
-        let bit = (set[p / WORD_POSITIONS] >> (p % WORD_POSITIONS)) & 1;
+        let bit = (set[p / MARKS_PER_WORD] >> (p % MARKS_PER_WORD)) & 1;
         end = put_position(bit, p, out, end);
         p += 1;
     }

@@ -5,7 +5,7 @@ ghost use lib.ListN.{length};
 ghost use Rattle.definitions.specs.Image.{rowsIn};
 ghost use Rattle.definitions.specs.Listing.{titleLine, minimumTitle, fusedTitle};
 ghost use Rattle.definitions.specs.Program.{rowLines};
-ghost use Rattle.text.specs.Written.{Fits, Written};
+ghost use Rattle.lists.specs.Written.{Fits, Written};
 ghost use Rattle.listing.specs.Lines.{HasRows, tableLines, unionLines};
 use crate::lines::columns_line;
 use crate::lines::row_line;

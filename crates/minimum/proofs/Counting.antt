@@ -12,13 +12,14 @@ use lib.Dec.{eqb}
 use lib.ListN.{length, getD, set, take, drop, length-map, length-set, length-take, List·getD-map}
 use lib.Seq.{getD-set-same, getD-set-other}
 use borrow.Author.Tests.{eqb-true, eqb-false}
+use Rattle.definitions.proofs.Images.{rows-length}
 use Rattle.definitions.specs.Limits.{maxColumns}
 use Rattle.definitions.specs.Image.{rowsIn}
 use Rattle.definitions.specs.MinimumUnion.{filled}
 use Rattle.definitions.proofs.Bools.{bool-cases, clash, or-cases}
 use Rattle.definitions.proofs.Lists.{below-cases}
 use Rattle.definitions.proofs.Subsumption.{filled-empties}
-use Rattle.lists.proofs.Flat.{rows-length, rows-at, part-row}
+use Rattle.lists.proofs.Flat.{rows-at, part-row}
 use Rattle.lists.proofs.Pastes.{Pasted, paste-turn, paste-all, paste-front}
 use Rattle.bitsets.specs.Bits.{has, withRow, wordBits}
 use Rattle.bitsets.proofs.Bits.{bit-at, has-or, has-none, has-with-self, has-with-old, has-with-cases, or-in-l, or-in-r}

@@ -7,12 +7,13 @@ use native.Mathlib.Numerals.{add-one}
 use native.Mathlib.Omega.{arith}
 use lib.ListN.{length, set, take}
 use lib.Seq.{take-suc-set, take-all}
+use Rattle.definitions.proofs.Images.{rows-length}
 use Rattle.definitions.specs.Limits.{maxUnionRows}
 use Rattle.definitions.specs.Lists.{any, filter, sumBelow}
 use Rattle.definitions.specs.Image.{rowsIn}
 use Rattle.definitions.specs.MinimumUnion.{subsumes, minimumRows, pairsTried}
 use Rattle.definitions.proofs.Lists.{keep-took, filter-left}
-use Rattle.lists.proofs.Flat.{rows-length, rows-at}
+use Rattle.lists.proofs.Flat.{rows-at}
 use Rattle.rows.specs.Indices.{rowAt, rowsAt, Below}
 use Rattle.minimum.specs.Trying.{triesAt, TriedRow, KeptRows}
 

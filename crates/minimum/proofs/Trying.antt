@@ -12,6 +12,7 @@ use lib.ListN.{length, getD, take, drop, length-drop}
 use lib.Seq.{getD-take, getD-drop, length-take-le}
 use lib.Dec.{eqb, ltb}
 use borrow.Author.Tests.{lt-ltb, le-ltb, ltb-true, ltb-false}
+use Rattle.definitions.proofs.Images.{rows-length}
 use Rattle.definitions.specs.Word.{isFilled}
 use Rattle.definitions.specs.Image.{rowsIn}
 use Rattle.definitions.specs.MinimumUnion.{filled, covers, subsumes}
@@ -19,7 +20,7 @@ use Rattle.definitions.proofs.Bools.{bool-cases, clash, not-so}
 use Rattle.definitions.proofs.Lists.{member-get, member-at, any-of, any-none}
 use Rattle.definitions.proofs.Rows.{filled-cell, covers-at}
 use Rattle.definitions.proofs.Subsumption.{subsumes-is, subsumes-self}
-use Rattle.lists.proofs.Flat.{rows-length, rows-at, row-fits, part-row}
+use Rattle.lists.proofs.Flat.{rows-at, row-fits, part-row}
 use Rattle.bitsets.specs.Bits.{has, withoutLowest, wordBits}
 use Rattle.bitsets.proofs.Bits.{Lowest, has-none, rest-in, rest-of}
 use Rattle.bitsets.proofs.Words.{in-word}

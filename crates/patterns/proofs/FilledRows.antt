@@ -8,6 +8,7 @@ use lib.Bits.{bitOr}
 use lib.ListN.{length, getD, set, replicate, take, drop, length-set, length-map, length-replicate, getD-replicate}
 use lib.Seq.{getD-set-same, getD-set-other}
 use borrow.Author.Count.{below-more}
+use Rattle.definitions.proofs.Images.{rows-length}
 use Rattle.definitions.specs.Limits.{maxColumns}
 use Rattle.definitions.specs.Word.{isFilled}
 use Rattle.definitions.specs.Image.{rowsIn}
@@ -17,7 +18,6 @@ use Rattle.definitions.proofs.Bools.{bool-cases}
 use Rattle.definitions.proofs.Lists.{map-at}
 use Rattle.definitions.proofs.Rows.{cell-filled, cell-empty}
 use Rattle.definitions.proofs.Sets.{contains-get, holds-within}
-use Rattle.lists.proofs.Flat.{rows-length}
 use Rattle.bitsets.specs.Bits.{has, rowsBelow, wordBits}
 use Rattle.bitsets.proofs.Bits.{has-bits, has-none, below-in}
 use Rattle.patterns.specs.Columns.{blankOf, filledIn, ColumnsOf, FilledRow}

@@ -6,8 +6,9 @@ use native.Mathlib.Nat.{add-mul, one-mul}
 use native.Mathlib.Omega.{arith}
 use lib.ListN.{length, take, drop, length-drop}
 use lib.Seq.{length-take-le, take-suc, take-all}
+use Rattle.definitions.proofs.Images.{rows-length}
 use Rattle.definitions.specs.Image.{rowsIn}
-use Rattle.lists.proofs.Flat.{rows-length, rows-take, rows-at, row-fits, part-row}
+use Rattle.lists.proofs.Flat.{rows-take, rows-at, row-fits, part-row}
 
 -- the rows with the next one
 pub rows-snoc : (c n : ℕ) (w : List ℕ) → rowsIn c (n + 1) w ≡ rowsIn c n w ++ (take c (drop (n * c) w) ∷ [])

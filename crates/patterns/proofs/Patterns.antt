@@ -16,7 +16,7 @@ use Rattle.definitions.specs.Word.{isFilled}
 use Rattle.definitions.specs.Image.{rowsIn}
 use Rattle.definitions.specs.MinimumUnion.{filled}
 use Rattle.definitions.specs.SetList.{bits}
-use Rattle.lists.proofs.Flat.{words-rows}
+use Rattle.definitions.proofs.Images.{words-rows}
 use Rattle.lists.proofs.Walks.{next}
 use Rattle.patterns.specs.Pattern.{patternOf, patternBits}
 use Rattle.patterns.proofs.Digits.{bit-small, bits-small, digit-next}

@@ -5,6 +5,7 @@ use mathlib.Core.List.{List, []}
 use Prim.Native.Nat.{ℕ, _+_, _*_, _<_, _≤_}
 use native.Mathlib.Omega.{arith}
 use lib.ListN.{length, getD, take}
+use Rattle.definitions.proofs.Images.{rows-length}
 use Rattle.definitions.specs.Image.{rowsIn}
 use Rattle.definitions.specs.Lists.{findIndex}
 use Rattle.definitions.specs.OuterUnion.{compareRow}
@@ -20,7 +21,7 @@ use Rattle.lists.specs.declared.Spot.{Spot}
 use Rattle.lists.specs.declared.Spot.the-variants.{Free, Taken}
 use Rattle.lists.specs.Spot.{spotIn}
 use Rattle.lists.proofs.Search.{Between, search-starts, search-up, search-down, search-found, search-ends, taken-member, member-not-free}
-use Rattle.lists.proofs.Flat.{rows-length, rows-at}
+use Rattle.lists.proofs.Flat.{rows-at}
 use Rattle.rows.specs.Indices.{rowAt, rowsAt, AscendingIndices, Ordered}
 use Rattle.rows.proofs.Indices.{indices-ascending, rows-length-at, row-named}
 

@@ -103,3 +103,12 @@ pub(crate) fn run(call: Call, a: &[u32], b: &[u32], room: usize, set_room: usize
         }
     }
 }
+
+// The set list of complement union; how many words it has, 0 for a refusal.
+pub(crate) fn list_sets(a: &[u32], b: &[u32], list: &mut [u32]) -> usize {
+    let mut table = [0u32; 12000];
+    match unions::complement_union(a, b, &mut table, list) {
+        ComplementAnswer::Done { set_words, .. } => set_words,
+        ComplementAnswer::Refused { .. } => 0,
+    }
+}

@@ -22,3 +22,15 @@ pub fn case(call: Call, name: &[u8], first: &[u8], second: &[u8], room: usize, s
     print::text(name);
     part(call, &a, n, &b, m, room, set_room);
 }
+
+// Writes the set list of the first n words of an image and of the table that a text describes; how many words it has, 0 for a refusal.
+pub fn set_list(a: &[u32], n: usize, second: &[u8], list: &mut [u32]) -> usize {
+    let mut b = [0u32; 1000];
+    let m = image::read(second, &mut b);
+    if n <= a.len() {
+        if m <= b.len() {
+            return call::list_sets(&a[..n], &b[..m], list);
+        }
+    }
+    0
+}

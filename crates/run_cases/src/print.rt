@@ -2,18 +2,18 @@
 ghost use Prim.Native.Nat.{_<_, _≤_};
 
 // What every word of a lent buffer holds before a call.
-pub(crate) const FOUND: u32 = 0x5a5a_5a5a;
+pub const FOUND: u32 = 0x5a5a_5a5a;
 
 pub fn text(t: &[u8]) {
     io::write_all(1, t);
 }
 
-pub(crate) fn end_line() {
+pub fn end_line() {
     text(b"\n");
 }
 
 // A number, after a space.
-pub(crate) fn value(n: u64) {
+pub fn value(n: u64) {
     text(b" ");
     io::print_decimal(1, n);
 }
@@ -23,7 +23,7 @@ fn word(w: u32) {
     io::print_hex(1, w as u64, 8);
 }
 
-pub(crate) fn refused(number: u32, table: u32) {
+pub fn refused(number: u32, table: u32) {
     text(b": refused");
     value(number as u64);
     text(b" table");
@@ -86,7 +86,7 @@ fn written(words: &[u32]) {
 }
 
 // The words that were written, and how many of the others are as found.
-pub(crate) fn buffer(words: &[u32], end: usize) {
+pub fn buffer(words: &[u32], end: usize) {
     if end <= words.len() {
         if 0 < end {
             written(&words[..end]);

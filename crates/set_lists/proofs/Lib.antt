@@ -1,3 +1,9 @@
--- Laws of the set list that is written.
+-- Laws of the set list: written (Records, Written), and read: its mark words (Marks, Positions), its records (RecordTests, Entries), and the
+-- ways out of the reader (Ends).
 pub mod Records
 pub mod Written
+pub mod Marks
+pub mod Positions
+pub mod RecordTests
+pub mod Entries
+pub mod Ends

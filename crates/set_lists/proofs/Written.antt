@@ -2,19 +2,18 @@
 use mathlib.Core.Path.{_≡_, refl, sym, _∙_, ap, ap₂}
 use mathlib.Core.Logic.{inl, inr}
 use mathlib.Core.Bool.{Bool}
-use mathlib.Core.List.{List, [], _∷_, _++_, map, flatten}
+use mathlib.Core.List.{List, [], _∷_, _++_, map}
 use Prim.Native.Nat.{ℕ, _+_, _*_, _<_, _≤_}
 use native.Mathlib.Omega.{arith}
-use lib.ListN.{length, drop, length-map}
-use Rattle.definitions.specs.Limits.{maxSets, setWidth}
-use Rattle.definitions.specs.Word.{headerWord}
+use lib.ListN.{length, drop}
+use Rattle.definitions.specs.Limits.{maxSets, markWords, setWidth}
 use Rattle.definitions.specs.ComplementUnion.{unionSets}
-use Rattle.definitions.specs.SetList.{bits, fusedPosition, setRecord, setList}
+use Rattle.definitions.specs.SetList.{bits, fusedPosition, setRecord, listOf, setList}
 use Rattle.definitions.specs.Statements.{Member}
 use Rattle.definitions.proofs.Counts.{fused-count, set-list-length}
 use Rattle.definitions.proofs.SetWords.{fused-position-within}
 use Rattle.rows.specs.Indices.{Below}
-use Rattle.set_lists.specs.Records.{recordOf, recordsOf, listOf}
+use Rattle.set_lists.specs.Records.{recordsOf}
 
 module _ (rows : List (List ℕ)) where
   pub positions-below : length (unionSets rows) ≤ maxSets → Below maxSets (map (fusedPosition rows) (unionSets rows))
@@ -25,21 +24,19 @@ module _ (rows : List (List ℕ)) where
       below (s ∷ ss) f = (f s (inl refl), below ss (λ t h. f t (inr h)))
 
   records-are : (ss : List (List Bool)) → recordsOf (map bits ss) (map (fusedPosition rows) ss) ≡ map (setRecord rows) ss
-  unfolding recordsOf recordOf setRecord
+  unfolding recordsOf setRecord
   records-are [] = refl
   records-are (s ∷ ss) = ap (λ (t : List (List ℕ)). setRecord rows s ∷ t) (records-are ss)
 
   module _ (sets positions : List ℕ) (known : sets ≡ map bits (unionSets rows)) (fused : positions ≡ map (fusedPosition rows) (unionSets rows)) where
-    pub list-is : listOf sets positions ≡ setList rows
-    unfolding listOf setList
-    list-is =
-        ap₂ (λ (s p : List ℕ). headerWord (length s) setWidth ∷ flatten (recordsOf s p)) known fused
-        ∙ ap₂ (λ (k : ℕ) (t : List (List ℕ)). headerWord k setWidth ∷ flatten t) (length-map (unionSets rows) bits) (records-are (unionSets rows))
+    pub list-is : listOf markWords (recordsOf sets positions) ≡ setList rows
+    unfolding setList
+    list-is = ap (listOf markWords) (ap₂ recordsOf known fused ∙ records-are (unionSets rows))
 
   -- the buffer after it
   pub list-written : (sets positions found now : List ℕ) (count : ℕ) → length (unionSets rows) ≡ count
       → sets ≡ map bits (unionSets rows) → positions ≡ map (fusedPosition rows) (unionSets rows)
-      → now ≡ listOf sets positions ++ drop (1 + setWidth * count) found
+      → now ≡ listOf markWords (recordsOf sets positions) ++ drop (1 + setWidth * count) found
       → now ≡ setList rows ++ drop (length (setList rows)) found
   list-written sets positions found now count e known fused written =
       let size : 1 + setWidth * count ≡ length (setList rows) = ap (λ (k : ℕ). 1 + setWidth * k) (sym e) ∙ sym (set-list-length rows) in

@@ -1,2 +1,3 @@
--- Words of the contracts on set lists.
+-- What the functions on set lists ask for and promise.
 pub mod Records
+pub mod Marks

@@ -1,2 +1,2 @@
--- What the functions that write text ask for and promise.
-pub mod Written
+-- The bytes that stand between fields and behind them.
+pub mod Bytes

@@ -4,7 +4,8 @@ ghost use Prim.Native.Nat.{_+_, _≤_};
 ghost use mathlib.Core.List.{[], _∷_, _++_};
 ghost use lib.ListN.{length};
 ghost use Rattle.definitions.specs.Text.{decimal, cellText};
-ghost use Rattle.text.specs.Written.{space, Fits, Written};
+ghost use Rattle.lists.specs.Written.{Fits, Written};
+ghost use Rattle.text.specs.Bytes.{space};
 use words::low_bits;
 
 // "Fields have one space between them, lines end with byte 10."

@@ -7,12 +7,12 @@ use native.Mathlib.Omega.{arith}
 use lib.Dec.{leb}
 use lib.ListN.{length, take, drop, length-map}
 use lib.Seq.{take-all, length-take-le, getD-take}
-use Rattle.definitions.specs.Limits.{maxColumns, maxSets, setWidth}
+use Rattle.definitions.specs.Limits.{maxColumns, maxSets, markWords, setWidth}
 use Rattle.definitions.specs.Image.{imageOf, rowsIn}
 use Rattle.definitions.specs.OuterUnion.{unionIds, unionRows}
 use Rattle.definitions.specs.MinimumUnion.{filled}
 use Rattle.definitions.specs.ComplementUnion.{unionSets, fusedRows}
-use Rattle.definitions.specs.SetList.{bits, setList}
+use Rattle.definitions.specs.SetList.{bits, listOf, setList}
 use Rattle.definitions.specs.Answer.{Outcome, done, refused, unless, no}
 use Rattle.definitions.specs.Calls.{fusedImage, complementOutcome}
 use Rattle.definitions.specs.Promise.{ComplementPromise}
@@ -23,7 +23,7 @@ use Rattle.images.specs.Writing.{Writable, WrittenImage}
 use Rattle.images.proofs.Rows.{image-words, image-values, image-over}
 use Rattle.patterns.specs.Columns.{ColumnsOf}
 use Rattle.fusing.specs.Fused.{SetsOf, RoomFor, FusedOf}
-use Rattle.set_lists.specs.Records.{listOf, Listable}
+use Rattle.set_lists.specs.Records.{recordsOf, Listable}
 use Rattle.set_lists.proofs.Written.{positions-below, list-written}
 use Rattle.rows.specs.Indices.{rowsAt, Below}
 use Rattle.tables.specs.declared.Table.{Table}
@@ -112,7 +112,7 @@ module _ {ids cells : List ℕ} {n : ℕ} {columns list joins order positions : 
     fused-refused h = record { answers = sym (unless-refused number 2 (done values) h) ∙ outcome; writes = refl; lists = refl }
 
     pub fused-done : number ≡ 0 → (tableAfter setsAfter : List ℕ) (k : ℕ) → WrittenImage ids (length ids) joins order m table tableAfter k
-        → setsAfter ≡ listOf (take (length list) list) (take (length list) positions) ++ drop setWords sets
+        → setsAfter ≡ listOf markWords (recordsOf (take (length list) list) (take (length list) positions)) ++ drop setWords sets
         → FusedInto ids T (done (m ∷ words ∷ k ∷ length list ∷ setWords ∷ [])) table tableAfter sets setsAfter
     fused-done e tableAfter setsAfter k i s = record {
       answers = ap done

@@ -10,7 +10,7 @@ use Rattle.definitions.specs.MinimumUnion.{filled}
 use Rattle.definitions.specs.ComplementUnion.{unionSets, fusedRows}
 use Rattle.definitions.specs.SetList.{setList}
 use Rattle.definitions.specs.Answer.{Outcome, done, unless, no, afterwards}
-use Rattle.definitions.specs.Calls.{tableRoom}
+use Rattle.definitions.specs.Calls.{enoughRoom}
 use Rattle.fusing.specs.Fused.{RowsOf, AllSetsOf}
 
 -- as many sets as short lists are lent for
@@ -35,7 +35,7 @@ pub record ListedTable (ids cells : List ℕ) (n : ℕ) (columns list : List ℕ
 -- the questions 10 and 11 of complement union and its done answer, for T with these columns and rows
 abbrev pub fusedOutcome : List ℕ → List (List ℕ) → ℕ → ℕ → Outcome
 fusedOutcome ids rows room setRoom =
-    tableRoom (imageOf ids (fusedRows rows)) room
+    enoughRoom (imageOf ids (fusedRows rows)) room
     (unless (no (leb (length (setList rows)) setRoom) 11) 2
     (done (length (fusedRows rows) ∷ length (imageOf ids (fusedRows rows)) ∷ filled (flatten (fusedRows rows))
     ∷ length (unionSets rows) ∷ length (setList rows) ∷ [])))

@@ -2,6 +2,7 @@
 ghost use mathlib.Core.Path.{_≡_};
 ghost use Prim.Native.Nat.{_<_, _%_, _^_};
 ghost use Rattle.definitions.specs.Word.{kindOf, wordOf, rowsOf, columnsOf, headerSpare, headerWord, idOf, columnSpare, isCell};
+ghost use Rattle.definitions.specs.Image.{isHeader};
 
 // The two top bits.
 pub fn kind(w: u32) -> u32
@@ -36,6 +37,16 @@ pub fn header_spare(w: u32) -> u32
     ensures { λ r. ⌜ r ≡ headerSpare w ⌝ }
 {
     (w >> 5) & 0x1fff
+}
+
+// Whether a word is a header: of kind 3, with bits 17 to 5 zero.
+pub fn is_header(w: u32) -> bool
+    ensures { λ r. ⌜ r ≡ isHeader w ⌝ }
+{
+    if kind(w) == 3 {
+        return header_spare(w) == 0;
+    }
+    false
 }
 
 // Bits 15 to 0 of a column word.

@@ -37,6 +37,16 @@ mod raw {
             answer: *mut u32,
             answer_len: usize,
         ) -> u32;
+
+        pub fn fusion_read_set_list(
+            list: *const u32,
+            list_len: usize,
+            rows: u32,
+            words: *mut u32,
+            words_len: usize,
+            answer: *mut u32,
+            answer_len: usize,
+        ) -> u32;
     }
 }
 
@@ -46,11 +56,13 @@ pub const UNION_WORDS: usize = 1 + 16 + 64 * 16;
 pub const FUSED_WORDS: usize = 1 + 16 + 1024 * 16;
 /// Set words that are enough for every complement union.
 pub const SET_WORDS: usize = 1 + 4 * 1024;
+/// Words that are enough for every set list that is read.
+pub const READ_WORDS: usize = 1024 * (2 + 64);
 
 /// A refused call: it has changed no buffer.
 #[derive(Clone, Copy, Debug, PartialEq, Eq)]
 pub struct Refusal {
-    /// 1 to 11.
+    /// 1 to 14.
     pub number: u32,
     /// 0 for the first table, 1 for the second, 2 for all numbers from 8.
     pub table: u32,
@@ -70,6 +82,13 @@ pub struct Fused {
     pub table: Written,
     pub sets: usize,
     pub set_words: usize,
+}
+
+/// Counts of a set list that was read.
+#[derive(Clone, Copy, Debug, PartialEq, Eq)]
+pub struct Read {
+    pub sets: usize,
+    pub words: usize,
 }
 
 type Words = [u32; 9];
@@ -168,6 +187,31 @@ pub fn complement_union(
             table: written(&answer),
             sets: answer[6] as usize,
             set_words: answer[7] as usize,
+        }),
+        _ => Err(refusal(&answer)),
+    }
+}
+
+/// Writes the members of each set of a list into `words`: how many they are,
+/// their positions in a T of `rows` rows, and the position of the joined row.
+pub fn read_set_list(list: &[u32], rows: u32, words: &mut [u32]) -> Result<Read, Refusal> {
+    let mut answer: Words = [0; 9];
+    // SAFETY: as in `outer_union`.
+    let number = unsafe {
+        raw::fusion_read_set_list(
+            list.as_ptr(),
+            list.len(),
+            rows,
+            words.as_mut_ptr(),
+            words.len(),
+            answer.as_mut_ptr(),
+            answer.len(),
+        )
+    };
+    match number {
+        0 => Ok(Read {
+            sets: answer[6] as usize,
+            words: answer[3] as usize,
         }),
         _ => Err(refusal(&answer)),
     }

@@ -4,8 +4,8 @@ use Prim.Native.Nat.{ℕ, _-_, _≤_, _<_}
 use mathlib.Core.Path.{_≡_, refl, _∙_}
 use native.Mathlib.Omega.{arith}
 use lib.ListN.{length, length-set}
+use Rattle.definitions.proofs.Images.{rows-length}
 use Rattle.definitions.specs.Limits.{maxUnionRows}
-use Rattle.lists.proofs.Flat.{rows-length}
 use Rattle.minimum.proofs.Keeping.{KeptTo, kept-none, subsumed-left, unsubsumed-kept, kept-rows}
 use Rattle.minimum.proofs.keep_rows.Statement.{statement}
 use Rattle.minimum.proofs.keep_rows.Tie as tie

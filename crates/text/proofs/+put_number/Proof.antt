@@ -1,7 +1,7 @@
 -- `put_number` meets its contract: the digits before the last one are those of a tenth. The measure is the number.
 use mathlib.Core.Path.{sym}
 use Rattle.definitions.proofs.Digits.{decimal-digit, decimal-last, digit-length, last-length}
-use Rattle.text.proofs.Writing.{then-written, as-written}
+use Rattle.lists.proofs.Writing.{then-written, as-written}
 use borrow.Author.Needs.{needs}
 use native.Mathlib.Omega.{arith}
 use Prim.Native.Nat.{ℕ, _<_}

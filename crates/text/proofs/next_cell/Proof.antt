@@ -1,5 +1,5 @@
 -- `next_cell` meets its contract: a space, and then the text.
-use Rattle.text.proofs.Writing.{then-written}
+use Rattle.lists.proofs.Writing.{then-written}
 use borrow.Author.Needs.{needs}
 use Rattle.text.proofs.next_cell.Statement.{statement}
 use Rattle.text.proofs.next_cell.Tie as tie

@@ -1,5 +1,5 @@
 -- `next_number` meets its contract: a space, and then the digits.
-use Rattle.text.proofs.Writing.{then-written}
+use Rattle.lists.proofs.Writing.{then-written}
 use borrow.Author.Needs.{needs}
 use Rattle.text.proofs.next_number.Statement.{statement}
 use Rattle.text.proofs.next_number.Tie as tie

@@ -1,5 +1,5 @@
 -- `number_field` meets its contract: the digits, and then a space.
-use Rattle.text.proofs.Writing.{then-written}
+use Rattle.lists.proofs.Writing.{then-written}
 use borrow.Author.Needs.{needs}
 use Rattle.text.proofs.number_field.Statement.{statement}
 use Rattle.text.proofs.number_field.Tie as tie

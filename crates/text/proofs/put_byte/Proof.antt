@@ -1,7 +1,7 @@
 -- `put_byte` meets its contract: the first bytes after a store.
 use borrow.Author.Needs.{needs}
 use native.Mathlib.Omega.{arith}
-use Rattle.text.proofs.Writing.{byte-written}
+use Rattle.lists.proofs.Writing.{one-written}
 use Rattle.text.proofs.put_byte.Statement.{statement}
 use Rattle.text.proofs.put_byte.Tie as tie
 
@@ -15,7 +15,7 @@ same-length : tie.Need-same-length
 same-length c = search needs
 
 returns : tie.Need-returns
-returns c = byte-written _ _ _ (omega arith)
+returns c = one-written _ _ _ (omega arith)
 
 pub put-byte-spec : {M : Type 1} → statement M
 put-byte-spec = tie.close (tie.spec slice-write-out add-result same-length returns)

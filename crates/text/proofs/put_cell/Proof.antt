@@ -5,7 +5,7 @@ use native.Mathlib.Omega.{arith}
 use lib.ListN.{length}
 use Rattle.definitions.specs.Text.{decimal}
 use Rattle.definitions.proofs.Cells.{empty-text, number-text}
-use Rattle.text.proofs.Writing.{as-written}
+use Rattle.lists.proofs.Writing.{as-written}
 use borrow.Author.Needs.{needs}
 use Rattle.text.proofs.put_cell.Statement.{statement}
 use Rattle.text.proofs.put_cell.Tie as tie

@@ -2,7 +2,7 @@
 use Prim.Native.Nat.{_-_}
 use native.Mathlib.Omega.{arith}
 use lib.ListN.{length}
-use Rattle.text.proofs.Writing.{Copied, same-room, byte-fits, copy-starts, copy-turn, copy-ends}
+use Rattle.lists.proofs.Writing.{Copied, same-room, copy-fits, copy-starts, copy-turn, copy-ends}
 use borrow.Author.Needs.{needs}
 use Rattle.text.proofs.put_text.Statement.{statement}
 use Rattle.text.proofs.put_text.Tie as tie
@@ -20,10 +20,10 @@ shared-slice-read-out : tie.Need-shared-slice-read-out Inv-loop μ-loop
 shared-slice-read-out c = search needs
 
 slice-write-out : tie.Need-slice-write-out Inv-loop μ-loop
-slice-write-out c = byte-fits (c .before .before .loop .inv) (omega arith)
+slice-write-out c = copy-fits (c .before .before .loop .inv) (omega arith)
 
 add-end : tie.Need-add-end Inv-loop μ-loop
-add-end c = omega (arith, byte-fits (c .before .before .loop .inv) (omega arith))
+add-end c = omega (arith, copy-fits (c .before .before .loop .inv) (omega arith))
 
 add-i : tie.Need-add-i Inv-loop μ-loop
 add-i c = search needs

@@ -1,5 +1,5 @@
 -- `text_field` meets its contract: the text, and then a space.
-use Rattle.text.proofs.Writing.{then-written}
+use Rattle.lists.proofs.Writing.{then-written}
 use borrow.Author.Needs.{needs}
 use Rattle.text.proofs.text_field.Statement.{statement}
 use Rattle.text.proofs.text_field.Tie as tie

@@ -1,5 +1,5 @@
 -- `put_answer` meets its contract: the line of a refusal, or the listing.
-use Rattle.text.proofs.Writing.{as-written}
+use Rattle.lists.proofs.Writing.{as-written}
 use Rattle.fuse_body.proofs.Parts.{refused-text, listed-text, listed-words}
 use Rattle.fuse_body.proofs.Texts.{unions-fit}
 use borrow.Author.Needs.{needs}

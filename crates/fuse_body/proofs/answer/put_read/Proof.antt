@@ -3,7 +3,7 @@ use mathlib.Core.Path.{sym, _∙_, ap₂}
 use native.Mathlib.Omega.{arith}
 use lib.Seq.{length-take-le}
 use Rattle.definitions.specs.Program.{unionsText}
-use Rattle.text.proofs.Writing.{as-written}
+use Rattle.lists.proofs.Writing.{as-written}
 use Rattle.fuse_body.proofs.Texts.{ragged-board, ragged-plant, whole-words, read-fits}
 use borrow.Author.Needs.{needs}
 use Rattle.fuse_body.proofs.answer.put_read.Statement.{statement}

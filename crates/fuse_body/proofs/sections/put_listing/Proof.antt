@@ -2,7 +2,7 @@
 use mathlib.Core.Path.{sym, ap}
 use native.Mathlib.Omega.{arith}
 use lib.ListN.{length}
-use Rattle.text.proofs.Writing.{as-written, then-written}
+use Rattle.lists.proofs.Writing.{as-written, then-written}
 use Rattle.fuse_body.proofs.Parts.{listing-parts, listing-length}
 use borrow.Author.Needs.{needs}
 use Rattle.fuse_body.proofs.sections.put_listing.Statement.{statement}

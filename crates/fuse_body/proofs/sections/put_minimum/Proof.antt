@@ -2,7 +2,7 @@
 use mathlib.Core.Path.{ap}
 use native.Mathlib.Omega.{arith}
 use lib.ListN.{length}
-use Rattle.text.proofs.Writing.{as-written}
+use Rattle.lists.proofs.Writing.{as-written}
 use Rattle.fuse_body.proofs.Parts.{minimum-words, not-refused-minimum}
 use borrow.Author.Needs.{needs}
 use Rattle.fuse_body.proofs.sections.put_minimum.Statement.{statement}

@@ -5,7 +5,8 @@ use Prim.Native.Nat.{_+_, _-_, _*_, _≤_}
 use native.Mathlib.Nat.{zero-mul, add-mul, one-mul}
 use native.Mathlib.Omega.{arith}
 use lib.ListN.{length, length-set}
-use Rattle.lists.proofs.Flat.{rows-length, row-fits}
+use Rattle.definitions.proofs.Images.{rows-length}
+use Rattle.lists.proofs.Flat.{row-fits}
 use Rattle.patterns.proofs.Parts.{part-length}
 use Rattle.fusing.proofs.Crossing.{rows-seen, CrossedRows, crossing-turn}
 use Rattle.fusing.proofs.graph.cross_rows.Statement.{statement}

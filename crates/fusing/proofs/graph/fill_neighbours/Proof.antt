@@ -1,8 +1,8 @@
 -- `fill_neighbours` meets its contract: rows that cross and agree complement each other.
 use borrow.Author.Needs.{needs}
 use native.Mathlib.Omega.{arith}
+use Rattle.definitions.proofs.Images.{rows-length}
 use Rattle.definitions.specs.Image.{rowsIn}
-use Rattle.lists.proofs.Flat.{rows-length}
 use Rattle.fusing.proofs.Neighbours.{graph-of}
 use Rattle.fusing.proofs.graph.fill_neighbours.Statement.{statement}
 use Rattle.fusing.proofs.graph.fill_neighbours.Tie as tie

@@ -5,7 +5,7 @@ use mathlib.Core.List.{map}
 use native.Mathlib.Omega.{arith}
 use lib.ListN.{length, length-append}
 use Rattle.definitions.proofs.Lines.{later}
-use Rattle.text.proofs.Writing.{as-written, then-written, behind-fits, same-room}
+use Rattle.lists.proofs.Writing.{as-written, then-written, behind-fits, same-room}
 use Rattle.listing.specs.Lines.{idText}
 use Rattle.listing.proofs.Fields.{ids-text, Fields, fields-start, field-fits, field-turn, end-fits, line-ends}
 use borrow.Author.Needs.{needs}

@@ -5,8 +5,8 @@ use mathlib.Core.List.{_∷_}
 use native.Mathlib.Omega.{arith}
 use lib.ListN.{length}
 use Rattle.definitions.specs.Text.{decimal}
-use Rattle.text.specs.Written.{space}
-use Rattle.text.proofs.Writing.{as-written}
+use Rattle.text.specs.Bytes.{space}
+use Rattle.lists.proofs.Writing.{as-written}
 use borrow.Author.Needs.{needs}
 use Rattle.listing.proofs.lines.next_id.Statement.{statement}
 use Rattle.listing.proofs.lines.next_id.Tie as tie

@@ -2,7 +2,7 @@
 use mathlib.Core.Path.{sym, ap}
 use native.Mathlib.Omega.{arith}
 use lib.ListN.{length, length-append}
-use Rattle.text.proofs.Writing.{as-written, then-written, behind-fits}
+use Rattle.lists.proofs.Writing.{as-written, then-written, behind-fits}
 use Rattle.listing.proofs.Fields.{ragged-text}
 use borrow.Author.Needs.{needs}
 use Rattle.listing.proofs.lines.ragged_line.Statement.{statement}

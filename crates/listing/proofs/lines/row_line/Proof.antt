@@ -6,7 +6,7 @@ use native.Mathlib.Omega.{arith}
 use lib.ListN.{length, drop, length-append}
 use Rattle.definitions.specs.Text.{cellText}
 use Rattle.definitions.proofs.Lines.{later}
-use Rattle.text.proofs.Writing.{as-written, then-written, behind-fits, same-room}
+use Rattle.lists.proofs.Writing.{as-written, then-written, behind-fits, same-room}
 use Rattle.listing.proofs.Fields.{no-fields, some-fields, Fields, fields-start, field-fits, field-turn, end-fits, line-ends}
 use borrow.Author.Needs.{needs}
 use Rattle.listing.proofs.lines.row_line.Statement.{statement}

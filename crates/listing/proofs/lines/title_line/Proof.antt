@@ -6,7 +6,7 @@ use native.Mathlib.Omega.{arith}
 use lib.ListN.{length, length-append}
 use Rattle.definitions.specs.Text.{decimal}
 use Rattle.definitions.proofs.Lines.{later, line-first}
-use Rattle.text.proofs.Writing.{as-written, then-written, behind-fits, same-room}
+use Rattle.lists.proofs.Writing.{as-written, then-written, behind-fits, same-room}
 use Rattle.listing.proofs.Fields.{Fields, fields-start, field-fits, field-turn, end-fits, line-ends}
 use borrow.Author.Needs.{needs}
 use Rattle.listing.proofs.lines.title_line.Statement.{statement}

@@ -1,7 +1,7 @@
 -- `put_position` meets its contract: each branch is a case of the text of a position.
 use mathlib.Core.Path.{sym}
 use native.Mathlib.Omega.{arith}
-use Rattle.text.proofs.Writing.{none-written, as-written}
+use Rattle.lists.proofs.Writing.{none-written, as-written}
 use Rattle.listing.proofs.SetLines.{position-text, position-length, no-position}
 use borrow.Author.Needs.{needs}
 use Rattle.listing.proofs.sets.put_position.Statement.{statement}

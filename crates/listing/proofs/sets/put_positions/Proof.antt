@@ -2,9 +2,8 @@
 use Prim.Native.Nat.{_*_, _-_}
 use native.Mathlib.Omega.{arith}
 use lib.Bits.{and-mask}
-use Rattle.definitions.specs.Limits.{markWords}
-use Rattle.definitions.specs.Reading.{wordMarks}
-use Rattle.text.proofs.Writing.{same-room}
+use Rattle.definitions.specs.Limits.{markWords, marksPerWord}
+use Rattle.lists.proofs.Writing.{same-room}
 use Rattle.listing.proofs.SetLines.{PositionsWritten, positions-start, position-fits, position-turn, positions-end}
 use borrow.Author.Needs.{needs}
 use Rattle.listing.proofs.sets.put_positions.Statement.{statement}
@@ -14,7 +13,7 @@ abbrev Inv-loop : tie.InvT-loop
 Inv-loop set out₀ at end₀ p₀ out end p = PositionsWritten set out₀ at p out end
 
 abbrev μ-loop : tie.MeasureT-loop
-μ-loop set out₀ at end₀ p₀ out end p = wordMarks * markWords - p
+μ-loop set out₀ at end₀ p₀ out end p = marksPerWord * markWords - p
 
 loop-holds : tie.Need-loop-holds Inv-loop μ-loop
 loop-holds c = positions-start _ _ _ (omega arith)

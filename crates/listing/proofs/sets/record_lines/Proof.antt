@@ -2,9 +2,9 @@
 use Prim.Native.Nat.{_-_}
 use native.Mathlib.Omega.{arith}
 use Rattle.definitions.specs.Limits.{setWidth}
-use Rattle.text.proofs.Writing.{same-room}
+use Rattle.lists.proofs.Writing.{same-room}
 use Rattle.listing.specs.Lines.{recordLine}
-use Rattle.listing.proofs.Rows.{RowsWritten, rows-start, row-within, row-length, row-line-fits, row-turn, rows-end}
+use Rattle.lists.proofs.RowWriting.{RowsWritten, rows-start, row-end, row-length, row-text-fits, row-turn, rows-end}
 use borrow.Author.Needs.{needs}
 use Rattle.listing.proofs.sets.record_lines.Statement.{statement}
 use Rattle.listing.proofs.sets.record_lines.Tie as tie
@@ -19,7 +19,7 @@ loop-holds : tie.Need-loop-holds Inv-loop μ-loop
 loop-holds c = rows-start _ _ _ _ _ _ (omega arith) (omega arith)
 
 add-stop : tie.Need-add-stop Inv-loop μ-loop
-add-stop c = omega (arith, row-within (c .before .loop .inv) (omega arith))
+add-stop c = omega (arith, row-end (c .before .loop .inv) (omega arith))
 
 mul-set-line : tie.Need-mul-set-line Inv-loop μ-loop
 mul-set-line c = search needs
@@ -31,12 +31,12 @@ part-set-line-start : tie.Need-part-set-line-start Inv-loop μ-loop
 part-set-line-start c = search needs
 
 part-set-line-end : tie.Need-part-set-line-end Inv-loop μ-loop
-part-set-line-end c = row-within (c .before .loop .inv) (omega arith)
+part-set-line-end c = row-end (c .before .loop .inv) (omega arith)
 
 set-line-requires : tie.Need-set-line-requires Inv-loop μ-loop
 set-line-requires c κs =
     let written = c .before .before .before .loop .inv in
-    (row-length written (omega arith), row-line-fits written (omega arith))
+    (row-length written (omega arith), row-text-fits written (omega arith))
 
 add-i : tie.Need-add-i Inv-loop μ-loop
 add-i c = search needs

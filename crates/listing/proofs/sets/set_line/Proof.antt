@@ -2,7 +2,7 @@
 use mathlib.Core.Path.{refl, sym, ap}
 use native.Mathlib.Omega.{arith}
 use lib.ListN.{length, length-append}
-use Rattle.text.proofs.Writing.{as-written, then-written, behind-fits}
+use Rattle.lists.proofs.Writing.{as-written, then-written, behind-fits}
 use Rattle.listing.proofs.SetLines.{record-text}
 use borrow.Author.Needs.{needs}
 use Rattle.listing.proofs.sets.set_line.Statement.{statement}

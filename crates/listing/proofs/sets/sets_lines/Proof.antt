@@ -2,7 +2,7 @@
 use mathlib.Core.Path.{sym}
 use native.Mathlib.Omega.{arith}
 use lib.ListN.{length-append}
-use Rattle.text.proofs.Writing.{as-written, then-written, behind-fits}
+use Rattle.lists.proofs.Writing.{as-written, then-written, behind-fits}
 use Rattle.listing.proofs.Rows.{list-within, list-text}
 use borrow.Author.Needs.{needs}
 use Rattle.listing.proofs.sets.sets_lines.Statement.{statement}

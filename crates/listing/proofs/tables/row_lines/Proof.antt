@@ -2,8 +2,8 @@
 use Prim.Native.Nat.{_-_}
 use native.Mathlib.Omega.{arith}
 use Rattle.definitions.specs.Listing.{rowLine}
-use Rattle.text.proofs.Writing.{same-room}
-use Rattle.listing.proofs.Rows.{RowsWritten, rows-start, row-within, row-line-fits, row-turn, rows-end}
+use Rattle.lists.proofs.Writing.{same-room}
+use Rattle.lists.proofs.RowWriting.{RowsWritten, rows-start, row-end, row-text-fits, row-turn, rows-end}
 use borrow.Author.Needs.{needs}
 use Rattle.listing.proofs.tables.row_lines.Statement.{statement}
 use Rattle.listing.proofs.tables.row_lines.Tie as tie
@@ -18,10 +18,10 @@ loop-holds : tie.Need-loop-holds Inv-loop μ-loop
 loop-holds c = rows-start _ _ _ _ _ _ (omega arith) (omega arith)
 
 add-stop : tie.Need-add-stop Inv-loop μ-loop
-add-stop c = omega (arith, row-within (c .before .loop .inv) (omega arith))
+add-stop c = omega (arith, row-end (c .before .loop .inv) (omega arith))
 
 mul-row-line : tie.Need-mul-row-line Inv-loop μ-loop
-mul-row-line c = omega (arith, row-within (c .before .loop .inv) (omega arith))
+mul-row-line c = omega (arith, row-end (c .before .loop .inv) (omega arith))
 
 sub-row-line : tie.Need-sub-row-line Inv-loop μ-loop
 sub-row-line c = search needs
@@ -30,10 +30,10 @@ part-row-line-start : tie.Need-part-row-line-start Inv-loop μ-loop
 part-row-line-start c = search needs
 
 part-row-line-end : tie.Need-part-row-line-end Inv-loop μ-loop
-part-row-line-end c = row-within (c .before .loop .inv) (omega arith)
+part-row-line-end c = row-end (c .before .loop .inv) (omega arith)
 
 row-line-requires : tie.Need-row-line-requires Inv-loop μ-loop
-row-line-requires c κs = row-line-fits (c .before .before .before .loop .inv) (omega arith)
+row-line-requires c κs = row-text-fits (c .before .before .before .loop .inv) (omega arith)
 
 add-i : tie.Need-add-i Inv-loop μ-loop
 add-i c = search needs

@@ -3,7 +3,7 @@ use mathlib.Core.Path.{sym}
 use native.Mathlib.Omega.{arith}
 use lib.ListN.{length-append}
 use Rattle.definitions.specs.Listing.{titleLine}
-use Rattle.text.proofs.Writing.{as-written, then-written, behind-fits}
+use Rattle.lists.proofs.Writing.{as-written, then-written, behind-fits}
 use Rattle.listing.proofs.Rows.{table-within, table-text}
 use borrow.Author.Needs.{needs}
 use Rattle.listing.proofs.tables.table_lines.Statement.{statement}

@@ -1,6 +1,6 @@
 -- `union_lines` meets its contract: the columns, and then the table.
 use mathlib.Core.Path.{sym}
-use Rattle.text.proofs.Writing.{as-written, then-written, behind-fits}
+use Rattle.lists.proofs.Writing.{as-written, then-written, behind-fits}
 use Rattle.listing.proofs.Rows.{union-text, columns-fit}
 use borrow.Author.Needs.{needs}
 use Rattle.listing.proofs.tables.union_lines.Statement.{statement}
