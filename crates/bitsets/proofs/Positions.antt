@@ -14,9 +14,10 @@ use borrow.Author.Tests.{eqb-true, eqb-false, eq-eqb, ne-eqb, ltb-true, ltb-fals
 use Rattle.definitions.specs.Lists.{all, tabulate}
 use Rattle.definitions.specs.Reading.{positionsOf}
 use Rattle.definitions.proofs.Tabulate.{tabulate-ext}
+use Rattle.definitions.proofs.MarkBits.{bits-next}
 use Rattle.definitions.proofs.Bools.{bool-cases, bool-eq}
 use Rattle.bitsets.specs.Bits.{has, both, rowsBelow, Inside, lowest, withoutLowest}
-use Rattle.bitsets.proofs.Bits.{has-both, has-none, has-low, has-suc, below-in, at-lowest, rest-in, rest-of, rest-out}
+use Rattle.bitsets.proofs.Bits.{has-both, has-none, below-in, at-lowest, rest-in, rest-of, rest-out}
 
 -- the low n bits of a word hold its positions below n
 pub has-mod : (w n k : ℕ) → k < n → has (w % 2 ^ n) k ≡ has w k
@@ -67,11 +68,10 @@ positions-next n from set some inside =
     (rest-out set (lowest set) l)
     (λ k d. bool-eq (has (withoutLowest set) k) (has set k) (rest-in set k) (λ p. rest-of set (lowest set) k l p d))
 
--- position by position: the lowest bit, and those of the half
-bits-next : (n x : ℕ) → tabulate (suc n) (has x) ≡ eqb (x % 2) 1 ∷ tabulate n (has (x / 2))
-unfolding tabulate
-bits-next n x =
-    ap₂ (λ (b : Bool) (s : List Bool). b ∷ s) (has-low x) (tabulate-ext n (λ k. has x (suc k)) (has (x / 2)) (λ k h. has-suc x k))
+-- the lowest bit, and then those of the half
+half-next : (n x : ℕ) → tabulate (suc n) (has x) ≡ eqb (x % 2) 1 ∷ tabulate n (has (x / 2))
+unfolding has
+half-next n x = bits-next n x
 
 half-below : (n x : ℕ) → x < 2 ^ suc n → x / 2 < 2 ^ n
 half-below n x h = omega (arith, pow-succ' 2 n)
@@ -82,7 +82,7 @@ unfolding tabulate positionsOf
 positions-ones zero from set h = omega (arith, ones-le 0 set h)
 positions-ones (suc n) from set h =
     let others = positions-ones n (suc from) (set / 2) (half-below n set h) in
-    ap (λ (s : List Bool). length (positionsOf from s)) (bits-next n set)
+    ap (λ (s : List Bool). length (positionsOf from s)) (half-next n set)
     ∙ bool-cases (eqb (set % 2) 1)
     (λ e. let odd = eqb-true (set % 2) 1 e in rw e (omega (arith, others, ones-step set)))
     (λ e. let even = eqb-false (set % 2) 1 e in rw e (omega (arith, others, ones-step set)))
@@ -113,7 +113,7 @@ positions-under zero x from rows h =
     ap (λ (y : ℕ). eqb y 0) (sym (zero-div (2 ^ (rows - from))) ∙ ap (λ (y : ℕ). y / 2 ^ (rows - from)) e)
 positions-under (suc n) x from rows h =
     let rest = positions-under n (x / 2) (suc from) rows (half-below n x h) in
-    ap (λ (s : List Bool). all (λ p. ltb p rows) (positionsOf from s)) (bits-next n x)
+    ap (λ (s : List Bool). all (λ p. ltb p rows) (positionsOf from s)) (half-next n x)
     ∙ bool-cases (ltb from rows)
     (λ t.
     let in-rows = ap (λ (y : ℕ). eqb y 0) (sym (shift-in x from rows (ltb-true from rows t))) in
@@ -133,7 +133,7 @@ unfolding positionsOf tabulate
 some-position zero x from h = let e : x ≡ 0 = omega arith in ap not (sym (eq-eqb x 0 e))
 some-position (suc n) x from h =
     let rest = some-position n (x / 2) (suc from) (half-below n x h) in
-    ap (λ (s : List Bool). ltb 0 (length (positionsOf from s))) (bits-next n x)
+    ap (λ (s : List Bool). ltb 0 (length (positionsOf from s))) (half-next n x)
     ∙ bool-cases (eqb (x % 2) 1)
     (λ e. rw e
     (lt-ltb 0 (suc (length (positionsBelow n (suc from) (x / 2)))) (omega arith)

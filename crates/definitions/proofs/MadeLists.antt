@@ -105,7 +105,7 @@ module _ (t : List (List ℕ)) (few : length (unionSets t) ≤ maxSets) (rows : 
         set-wide t s (omega (arith, size)) ∙ ap (λ (n : ℕ). s ++ replicate (marksPerWord * markWords - n) false) size
 
     made-entry : readRecord markWords (setRecord t s) ≡ entryWords (madeEntry t s)
-    made-entry = ap₂ (λ (l : List ℕ) (p : ℕ). entryWords (record { members = l; joined-row = p })) made-positions made-position
+    made-entry = ap₂ (λ (l : List ℕ) (p : ℕ). entryWords (record { members = l; joined-position = p })) made-positions made-position
 
   made-order : (s u : List Bool) → Member s (unionSets t) → Member u (unionSets t) → compareSet s u ≡ Before
       → compareSet (setIn markWords (setRecord t s)) (setIn markWords (setRecord t u)) ≡ Before

@@ -2,7 +2,7 @@
 use mathlib.Core.Path.{_≡_, refl, sym, _∙_, ap, ap₂}
 use mathlib.Core.Bool.{Bool, true, cond}
 use mathlib.Core.List.{List, [], _∷_, _++_}
-use Prim.Native.Nat.{ℕ, zero, suc, _+_, _*_, _/_, _%_, _^_, _<_, _≤_}
+use Prim.Native.Nat.{ℕ, zero, suc, _+_, _*_, _/_, _%_, _^_, _≤_}
 use native.Mathlib.Nat.{le-of-suc-le-suc, not-suc-le-zero, pow-succ', mul-assoc, div-div-eq-div-mul, div-one}
 use native.Mathlib.Numerals.{add-one}
 use native.Mathlib.Omega.{arith}
@@ -36,18 +36,21 @@ one-bit x =
     bool-cases (eqb (x % 2) 1) (λ e. rw e (sym (eqb-true (x % 2) 1 e)))
     (λ e. rw e (let f = eqb-false (x % 2) 1 e in omega arith))
 
+-- the lowest bit, and then those of the half
+pub bits-next : (n w : ℕ) → tabulate (suc n) (λ p. eqb (w / 2 ^ p % 2) 1) ≡ eqb (w % 2) 1 ∷ tabulate n (λ p. eqb (w / 2 / 2 ^ p % 2) 1)
+unfolding tabulate
+bits-next n w =
+    ap₂ (λ (b : Bool) (s : List Bool). b ∷ s) (ap (λ (x : ℕ). eqb (x % 2) 1) (div-one w))
+    (tabulate-ext n (λ p. eqb (w / 2 ^ suc p % 2) 1) (λ p. eqb (w / 2 / 2 ^ p % 2) 1)
+    (λ p h. ap (λ (x : ℕ). eqb (x % 2) 1) (ap (λ (x : ℕ). w / x) (pow-succ' 2 p) ∙ sym (div-div-eq-div-mul w 2 (2 ^ p)))))
+
 -- the lowest n bits of a number, as a set, make the number that they hold
 bits-below : (n w : ℕ) → bits (tabulate n (λ p. eqb (w / 2 ^ p % 2) 1)) ≡ w % 2 ^ n
 unfolding bits tabulate
 bits-below zero w = omega arith
 bits-below (suc n) w =
-    let low : cond (eqb (w / 2 ^ 0 % 2) 1) 1 0 ≡ w % 2 = ap (λ (x : ℕ). cond (eqb (x % 2) 1) 1 0) (div-one w) ∙ one-bit w in
-    let shift : (k : ℕ) → k < n → eqb (w / 2 ^ suc k % 2) 1 ≡ eqb (w / 2 / 2 ^ k % 2) 1 =
-    λ k h. ap (λ (x : ℕ). eqb (x % 2) 1) (ap (λ (x : ℕ). w / x) (pow-succ' 2 k) ∙ sym (div-div-eq-div-mul w 2 (2 ^ k))) in
-    let high : bits (tabulate n (λ p. eqb (w / 2 ^ suc p % 2) 1)) ≡ w / 2 % 2 ^ n =
-    ap bits (tabulate-ext n (λ p. eqb (w / 2 ^ suc p % 2) 1) (λ p. eqb (w / 2 / 2 ^ p % 2) 1) shift) ∙ bits-below n (w / 2) in
     let both : w % 2 ^ suc n ≡ w / 2 % 2 ^ n * 2 + w % 2 = ap (λ (k : ℕ). w % 2 ^ k) (sym (add-one n)) ∙ mod-pow-add w n 1 in
-    ap₂ (λ (x y : ℕ). x + 2 * y) low high ∙ omega arith
+    ap bits (bits-next n w) ∙ ap₂ (λ (x y : ℕ). x + 2 * y) (one-bit w) (bits-below n (w / 2)) ∙ omega arith
 
 -- the marks of one word are its lowest bits
 pub word-set : (w : ℕ) → wordSet w ≡ tabulate marksPerWord (λ p. eqb (w / 2 ^ p % 2) 1)

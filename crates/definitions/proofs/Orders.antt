@@ -175,16 +175,31 @@ set-trans (false ∷ s) (false ∷ t) (false ∷ u) e f = set-trans s t u e f
 pub sets : Orders compareSet
 sets = record { same = set-same; self = set-self; flip = set-flip; trans = set-trans }
 
--- the same positions behind two sets of one length leave their order
-pub set-behind : (s t rest : List Bool) → length s ≡ length t → compareSet (s ++ rest) (t ++ rest) ≡ compareSet s t
+-- sets of one length, and other positions behind them: these tell where the sets are the same
+pub set-append : (s t more other : List Bool) → length s ≡ length t
+    → compareSet (s ++ more) (t ++ other) ≡ thenBy (compareSet s t) (compareSet more other)
 unfolding compareSet
-set-behind [] [] rest e = set-self rest
-set-behind [] (m ∷ t) rest e = absurd (omega arith)
-set-behind (m ∷ s) [] rest e = absurd (omega arith)
-set-behind (true ∷ s) (true ∷ t) rest e = set-behind s t rest (omega arith)
-set-behind (true ∷ s) (false ∷ t) rest e = refl
-set-behind (false ∷ s) (true ∷ t) rest e = refl
-set-behind (false ∷ s) (false ∷ t) rest e = set-behind s t rest (omega arith)
+set-append [] [] more other e = refl
+set-append [] (m ∷ t) more other e = absurd (omega arith)
+set-append (m ∷ s) [] more other e = absurd (omega arith)
+set-append (true ∷ s) (true ∷ t) more other e = set-append s t more other (omega arith)
+set-append (true ∷ s) (false ∷ t) more other e = refl
+set-append (false ∷ s) (true ∷ t) more other e = refl
+set-append (false ∷ s) (false ∷ t) more other e = set-append s t more other (omega arith)
+
+pub then-same : (o : Order) → thenBy o Same ≡ o
+then-same Before = refl
+then-same Same = refl
+then-same After = refl
+
+pub then-first : (o later : Order) → (o ≡ Same → ⊥) → thenBy o later ≡ o
+then-first Before later d = refl
+then-first Same later d = absurd (d refl)
+then-first After later d = refl
+
+-- the same positions behind two sets leave their order
+pub set-behind : (s t rest : List Bool) → length s ≡ length t → compareSet (s ++ rest) (t ++ rest) ≡ compareSet s t
+set-behind s t rest e = set-append s t rest rest e ∙ ap (thenBy (compareSet s t)) (set-self rest) ∙ then-same (compareSet s t)
 
 -- ---- all sets, in set order
 

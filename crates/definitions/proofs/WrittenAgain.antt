@@ -34,7 +34,7 @@ entries-next : (n : ℕ) (entry : Entry) (rest : List ℕ) → entriesOf (suc n)
 unfolding entriesOf
 entries-next n entry rest =
     let members = entry .members in
-    let position = entry .joined-row in
+    let position = entry .joined-position in
     let words : members ++ (position ∷ []) ++ rest ≡ members ++ (position ∷ rest) =
     append-assoc members (position ∷ []) rest in
     let front : take (length members) (members ++ (position ∷ []) ++ rest) ≡ members =
@@ -45,7 +45,7 @@ entries-next n entry rest =
     ap₂ (λ (k : ℕ) (l : List ℕ). drop k l) (sym (add-one (length members))) words
     ∙ drop-append-add members (position ∷ rest) 1 in
     ap₂ (λ (e : Entry) (l : List Entry). e ∷ l)
-    (ap₂ (λ (l : List ℕ) (k : ℕ). record { members = l; joined-row = k }) front next)
+    (ap₂ (λ (l : List ℕ) (k : ℕ). record { members = l; joined-position = k }) front next)
     (ap (entriesOf n) past)
 
 pub entries-again : (entries : List Entry) → entriesOf (length entries) (flatten (map entryWords entries)) ≡ entries

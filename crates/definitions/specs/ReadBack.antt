@@ -22,14 +22,14 @@ use Rattle.definitions.specs.Reading.{setCount, recordsIn, setIn, positi
 -- what a record tells: the positions of the set's members, ascending, and the joined row's position
 pub record Entry : Type 0 where
   pub members : List ℕ
-  pub joined-row : ℕ
+  pub joined-position : ℕ
 
 abbrev pub entryIn : ℕ → List ℕ → Entry
-entryIn m words = record { members = positionsIn m words; joined-row = joinedPosition m words }
+entryIn m words = record { members = positionsIn m words; joined-position = joinedPosition m words }
 
 -- "without kind bits, the number of members, the positions ascending and the joined row's position"
 abbrev pub entryWords : Entry → List ℕ
-entryWords entry = length (entry .members) ∷ (entry .members ++ (entry .joined-row ∷ []))
+entryWords entry = length (entry .members) ∷ (entry .members ++ (entry .joined-position ∷ []))
 
 abbrev pub readRecord : ℕ → List ℕ → List ℕ
 readRecord m words = entryWords (entryIn m words)
@@ -90,7 +90,7 @@ readOutcome list rows room =
 -- ---- "the sets that made it"
 
 abbrev pub madeEntry : List (List ℕ) → List Bool → Entry
-madeEntry rows s = record { members = positionsOf 0 s; joined-row = fusedPosition rows s }
+madeEntry rows s = record { members = positionsOf 0 s; joined-position = fusedPosition rows s }
 
 -- the words of T's sets and of the positions of their joined rows
 unfoldable pub madeWords : List (List ℕ) → List ℕ
@@ -103,14 +103,14 @@ unfoldable pub entriesOf : ℕ → List ℕ → List Entry
 entriesOf zero words = []
 entriesOf (suc n) [] = []
 entriesOf (suc n) (count ∷ words) =
-    record { members = take count words; joined-row = getD words count 0 } ∷ entriesOf n (drop (suc count) words)
+    record { members = take count words; joined-position = getD words count 0 } ∷ entriesOf n (drop (suc count) words)
 
 -- the set of these positions, of those that m mark words hold
 abbrev pub setOf : ℕ → List ℕ → List Bool
 setOf m positions = tabulate (marksPerWord * m) (λ p. any (eqb p) positions)
 
 abbrev pub recordAgain : ℕ → Entry → List ℕ
-recordAgain m entry = recordOf m (bits (setOf m (entry .members))) (entry .joined-row)
+recordAgain m entry = recordOf m (bits (setOf m (entry .members))) (entry .joined-position)
 
 -- the list of entries
 unfoldable pub listAgain : ℕ → List Entry → List ℕ

@@ -1,5 +1,5 @@
--- Laws of mark words, one after the other: which positions they mark, whether these are below a number of rows, and their
--- set order. Assumes nothing.
+-- Laws of mark words, one after the other: which positions they mark, and whether these are below a number of rows. Assumes
+-- nothing.
 use mathlib.Core.Path.{_≡_, refl, sym, _∙_, ap, ap₂}
 use mathlib.Core.Bool.{Bool, true, false, not, _&&_, _||_, and-assoc, and-true}
 use mathlib.Core.List.{List, [], _∷_, _++_}
@@ -7,29 +7,23 @@ use Prim.Native.Nat.{ℕ, _+_, _-_, _/_, _%_, _^_, _<_, _≤_}
 use native.Mathlib.Nat.{zero-div}
 use native.Mathlib.Omega.{arith}
 use lib.Dec.{eqb, ltb}
-use lib.ListN.{length, getD, take, drop, length-append}
+use lib.ListN.{length, getD, drop, length-append}
 use lib.Pow.{shr-shr}
 use borrow.Author.Tests.{ltb-true, ltb-false, eq-eqb, ne-eqb, lt-ltb}
 use Rattle.definitions.specs.Limits.{marksPerWord}
-use Rattle.definitions.specs.declared.Order.{Order}
-use Rattle.definitions.specs.declared.Order.the-variants.{Same}
-use Rattle.definitions.specs.Ascending.{isBefore}
 use Rattle.definitions.specs.Lists.{all, any, tabulate}
 use Rattle.definitions.specs.Word.{kindOf}
-use Rattle.definitions.specs.SetList.{bits}
-use Rattle.definitions.specs.ComplementUnion.{compareSet}
 use Rattle.definitions.specs.Reading.{marksIn, setIn, positionsOf}
 use Rattle.definitions.specs.ReadBack.{areMarkWords}
 use Rattle.definitions.proofs.Tabulate.{tabulate-ext}
 use Rattle.definitions.proofs.Bools.{bool-cases}
 use Rattle.definitions.proofs.Lists.{all-append}
 use Rattle.definitions.proofs.Reading.{marks-count}
-use Rattle.definitions.proofs.MarkBits.{word-set, word-number}
-use Rattle.definitions.proofs.Marks.{wordSet, set-cons, positions-append, front-set}
+use Rattle.definitions.proofs.MarkBits.{word-set}
+use Rattle.definitions.proofs.Marks.{wordSet, set-cons, positions-append}
 use Rattle.set_lists.specs.Marks.{isMarkWord, marksFit}
-use Rattle.bitsets.specs.Bits.{has, compareBits}
+use Rattle.bitsets.specs.Bits.{has}
 use Rattle.bitsets.proofs.Positions.{has-mod, no-shift, positions-under, some-position}
-use Rattle.bitsets.proofs.Order.{set-order}
 use Rattle.lists.proofs.Walks.{next, end}
 
 -- ---- one mark word
@@ -159,72 +153,3 @@ module _ (rows : ℕ) (marks : List ℕ) where
   pub fitting-ends : (fit : Bool) (from i : ℕ) → length marks ≤ i → Fitting fit from i → fit ≡ marksFit rows marks
   unfolding fitsFrom
   fitting-ends fit from i h inv = sym (and-true fit) ∙ ap (λ (l : List ℕ). fit && fitsFrom from rows l) (sym (end marks i h)) ∙ inv
-
--- ---- set order
-
-compare-same : (s t u : List Bool) → compareSet (s ++ t) (s ++ u) ≡ compareSet t u
-unfolding compareSet
-compare-same [] t u = refl
-compare-same (true ∷ s) t u = compare-same s t u
-compare-same (false ∷ s) t u = compare-same s t u
-
-compare-apart : (s s' t u : List Bool) → length s ≡ length s' → (s ≡ s' → ⊥) → compareSet (s ++ t) (s' ++ u) ≡ compareSet s s'
-unfolding compareSet
-compare-apart [] [] t u e d = absurd (d refl)
-compare-apart [] (m ∷ s') t u e d = absurd (omega arith)
-compare-apart (m ∷ s) [] t u e d = absurd (omega arith)
-compare-apart (true ∷ s) (true ∷ s') t u e d = compare-apart s s' t u (omega arith) (λ q. d (ap (λ (l : List Bool). true ∷ l) q))
-compare-apart (true ∷ s) (false ∷ s') t u e d = refl
-compare-apart (false ∷ s) (true ∷ s') t u e d = refl
-compare-apart (false ∷ s) (false ∷ s') t u e d = compare-apart s s' t u (omega arith) (λ q. d (ap (λ (l : List Bool). false ∷ l) q))
-
--- of two words with these low bits
-module _ (w v x y : ℕ) (ex : x ≡ w % 2 ^ 30) (ey : y ≡ v % 2 ^ 30) where
-  word-order : compareBits x y ≡ compareSet (wordSet w) (wordSet v)
-  word-order =
-      ap₂ compareBits (ex ∙ sym (word-number w)) (ey ∙ sym (word-number v))
-      ∙ set-order (wordSet w) (wordSet v) (word-size w ∙ sym (word-size v))
-
-  pub words-apart : (s t : List Bool) → (x ≡ y → ⊥) → compareBits x y ≡ compareSet (wordSet w ++ s) (wordSet v ++ t)
-  words-apart s t d =
-      word-order
-      ∙ sym (compare-apart (wordSet w) (wordSet v) s t (word-size w ∙ sym (word-size v))
-      (λ q. d (ex ∙ sym (word-number w) ∙ ap bits q ∙ word-number v ∙ sym ey)))
-
-  pub words-same : (s t : List Bool) → x ≡ y → compareSet (wordSet w ++ s) (wordSet v ++ t) ≡ compareSet s t
-  words-same s t q =
-      let same : wordSet w ≡ wordSet v = word-bits w ∙ ap (λ (z : ℕ). tabulate marksPerWord (has z)) (sym ex ∙ q ∙ ey) ∙ sym (word-bits v) in
-      ap (λ (l : List Bool). compareSet (wordSet w ++ s) (l ++ t)) (sym same) ∙ compare-same (wordSet w) s t
-
--- ---- two lists of mark words, equal before i
-
-module _ (a b : List ℕ) (size : length a ≡ length b) where
-  abbrev pub Equal : ℕ → Type 0
-  Equal i = compareSet (markSet a) (markSet b) ≡ compareSet (markSet (drop i a)) (markSet (drop i b))
-
-  module _ (i : ℕ) (same : Equal i) (more : i < length a) where
-    here : (l : List ℕ) → i < length l → markSet (drop i l) ≡ wordSet (getD l i 0) ++ markSet (drop (i + 1) l)
-    here l h = ap markSet (next 0 l i h) ∙ set-cons (length (drop (i + 1) l)) (getD l i 0) (drop (i + 1) l)
-
-    both : compareSet (markSet a) (markSet b)
-        ≡ compareSet (wordSet (getD a i 0) ++ markSet (drop (i + 1) a)) (wordSet (getD b i 0) ++ markSet (drop (i + 1) b))
-    both = same ∙ ap₂ compareSet (here a more) (here b (omega arith))
-
-    -- the words at i have these low bits
-    module _ (x y : ℕ) (ex : x ≡ getD a i 0 % 2 ^ 30) (ey : y ≡ getD b i 0 % 2 ^ 30) where
-      pub differ : (x ≡ y → ⊥) → compareBits x y ≡ compareSet (markSet a) (markSet b)
-      differ d = words-apart (getD a i 0) (getD b i 0) x y ex ey _ _ d ∙ sym both
-
-      pub equal-turn : x ≡ y → Equal (i + 1)
-      equal-turn q = both ∙ words-same (getD a i 0) (getD b i 0) x y ex ey _ _ q
-
-  pub equal-end : (i : ℕ) → Equal i → length a ≤ i → Same ≡ compareSet (markSet a) (markSet b)
-  unfolding compareSet marksIn tabulate
-  equal-end i same h = sym (same ∙ ap₂ (λ (l m : List ℕ). compareSet (markSet l) (markSet m)) (end a i h) (end b i (omega arith)))
-
--- ---- two records
-
--- told by their mark words, without the row words
-pub front-order : (m : ℕ) (a b : List ℕ) → m ≤ length a → m ≤ length b → (o : Order)
-    → o ≡ compareSet (markSet (take m a)) (markSet (take m b)) → isBefore o ≡ isBefore (compareSet (setIn m a) (setIn m b))
-front-order m a b ha hb o e = ap isBefore (e ∙ ap₂ compareSet (front-set m a refl ha) (front-set m b refl hb))

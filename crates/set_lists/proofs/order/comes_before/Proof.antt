@@ -5,7 +5,7 @@ use native.Mathlib.Omega.{arith}
 use lib.Seq.{length-take-le}
 use Rattle.definitions.specs.Limits.{markWords}
 use Rattle.definitions.specs.Ascending.{isBefore}
-use Rattle.set_lists.proofs.Marks.{front-order}
+use Rattle.set_lists.proofs.MarkOrder.{front-order}
 use Rattle.set_lists.proofs.order.comes_before.Statement.{statement}
 use Rattle.set_lists.proofs.order.comes_before.Tie as tie
 

@@ -4,7 +4,7 @@ use mathlib.Core.Path.{_≡_, refl, _∙_}
 use Prim.Native.Nat.{_-_, _≤_}
 use native.Mathlib.Omega.{arith}
 use lib.ListN.{length}
-use Rattle.set_lists.proofs.Marks.{Equal, differ, equal-turn, equal-end}
+use Rattle.set_lists.proofs.MarkOrder.{Equal, differ, equal-turn, equal-end}
 use Rattle.set_lists.proofs.order.compare_marks.Statement.{statement}
 use Rattle.set_lists.proofs.order.compare_marks.Tie as tie
 
