@@ -5,11 +5,13 @@
  * An image is a list of 32-bit words:
  *   header    0xC0000000 | rows << 18 | columns
  *   columns   0x80000000 | id, one word a column; ids 0 to 65535, distinct
+ *             whatever their marks; with | FUSION_MARK the column is marked
  *   cells     row by row: 0 for an empty cell, 0x40000000 | number for a filled
  *             one; numbers 0 to 1073741823
  * A source table has 1 to 16 columns and 0 to 32 rows. Its image has exactly
  * 1 + columns + rows * columns words. Results are images too, with at most 16
- * columns and, for complement union, at most 1024 rows.
+ * columns and, for complement union, at most 1024 rows. A column of a result is
+ * marked if either table marks the column with its id.
  *
  * All lengths are counted in words and may have any value. Pointers must not
  * be null, also where the length is 0, and must be aligned for uint32_t. The
@@ -53,6 +55,9 @@ extern "C" {
 
 /* Words of an answer. */
 #define FUSION_ANSWER_WORDS 9
+
+/* The mark of a column word, bit 29: the column identifies. */
+#define FUSION_MARK 0x20000000u
 
 /* Table words that are enough for every outer and every minimum union. */
 #define FUSION_UNION_WORDS (1 + 16 + 64 * 16)
@@ -120,6 +125,10 @@ uint32_t fusion_minimum_union(const uint32_t *first, size_t first_len,
  *     0x40000000 | position of the joined row in the fused table
  * A position is a row's place in T, from 0. Of two sets the one that holds the
  * smallest position that only one of them holds comes first.
+ *
+ * If any column of the union is marked, even one that is empty in every row,
+ * rows complement each other only if they share a number in a marked column;
+ * if none is, a number shared in any column will do.
  *
  * Refusals: 1 to 11.
  */

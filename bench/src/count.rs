@@ -2,8 +2,8 @@
 //! call lists: the check of the workloads. Rows are compared by the brute
 //! force implementation's definitions.
 
-use crate::generate::{Pair, Table};
-use crate::naive::complement;
+use crate::generate::{Pair, Table, MARK};
+use crate::naive::{complement, counted};
 use crate::reference::Reference;
 use crate::MAX_TABLE_WORDS;
 
@@ -17,11 +17,14 @@ impl Graph {
         let answer = Reference::new().outer_union(&pair.first, &pair.second, &mut table);
         assert_eq!(answer.number, 0, "the pair is not accepted");
         let rows = Table::from_image(&table[..answer.words as usize]).rows;
+        let heads = &table[1..=(table[0] & 31) as usize];
+        let marks: Vec<bool> = heads.iter().map(|word| word & MARK != 0).collect();
+        let counts = counted(&marks);
         let near = |row: &Vec<u32>| {
             let marks = rows
                 .iter()
                 .enumerate()
-                .map(|(j, other)| u64::from(complement(row, other)) << j);
+                .map(|(j, other)| u64::from(complement(row, other, &counts)) << j);
             marks.fold(0, |all, mark| all | mark)
         };
         Graph(rows.iter().map(near).collect())

@@ -6,6 +6,10 @@ const HEADER: u32 = 3 << 30;
 const COLUMN: u32 = 2 << 30;
 const FILLED: u32 = 1 << 30;
 const NUMBERS: u32 = FILLED - 1;
+const IDS: u32 = 0xFFFF;
+
+/// The mark of a column word.
+pub const MARK: u32 = 1 << 29;
 
 /// Splitmix64.
 #[derive(Clone)]
@@ -64,7 +68,8 @@ impl Rng {
     }
 }
 
-/// A table before it is written as an image. Cells are words, 0 is empty.
+/// A table without marks before it is written as an image. Cells are words, 0
+/// is empty.
 #[derive(Clone, Debug)]
 pub struct Table {
     pub ids: Vec<u32>,
@@ -81,14 +86,11 @@ impl Table {
         words
     }
 
-    /// The table of a well-formed image.
+    /// The table of a well-formed image, without its marks.
     pub fn from_image(image: &[u32]) -> Table {
         let columns = (image[0] & 31) as usize;
         Table {
-            ids: image[1..=columns]
-                .iter()
-                .map(|word| word & 0xFFFF)
-                .collect(),
+            ids: image[1..=columns].iter().map(|word| word & IDS).collect(),
             rows: image[1 + columns..]
                 .chunks_exact(columns)
                 .map(<[u32]>::to_vec)
@@ -115,6 +117,100 @@ pub(crate) fn pair(kind: &'static str, (first, second): (Table, Table)) -> Pair 
         kind,
         first: first.image(),
         second: second.image(),
+    }
+}
+
+/// The column words of a well-formed image.
+fn heads(image: &mut [u32]) -> &mut [u32] {
+    let columns = (image[0] & 31) as usize;
+    &mut image[1..=columns]
+}
+
+/// Whether a well-formed image has a marked column.
+pub fn is_marked(image: &[u32]) -> bool {
+    image[1..=(image[0] & 31) as usize]
+        .iter()
+        .any(|word| word & MARK != 0)
+}
+
+/// A pair of well-formed images without its marks.
+pub fn unmarked(pair: &Pair) -> Pair {
+    let mut pair = pair.clone();
+    for image in [&mut pair.first, &mut pair.second] {
+        for word in heads(image) {
+            *word &= !MARK;
+        }
+    }
+    pair
+}
+
+/// Marks the column with this id, if the image has it.
+fn mark_id(image: &mut [u32], id: u32) -> bool {
+    let head = heads(image).iter_mut().find(|word| **word & IDS == id);
+    match head {
+        Some(word) => {
+            *word |= MARK;
+            true
+        }
+        None => false,
+    }
+}
+
+/// Marks each column word of an image in `part` of 8 cases.
+fn mark_some(rng: &mut Rng, image: &mut [u32], part: usize) {
+    for word in heads(image) {
+        if rng.chance(part, 8) {
+            *word |= MARK;
+        }
+    }
+}
+
+/// Empties the column with this id, if the image has it.
+fn empty_column(image: &mut [u32], id: u32) {
+    let columns = (image[0] & 31) as usize;
+    if let Some(place) = heads(image).iter().position(|word| word & IDS == id) {
+        for row in image[1 + columns..].chunks_exact_mut(columns) {
+            row[place] = 0;
+        }
+    }
+}
+
+/// Puts marks on columns of two well-formed images. Column words are marked
+/// each by itself, so that of a column in both tables often only one is.
+fn mark(rng: &mut Rng, pair: &mut Pair) {
+    let mut images = [&mut pair.first, &mut pair.second];
+    if rng.chance(1, 2) {
+        images.swap(0, 1);
+    }
+    let [one, other] = images;
+    let id = *rng.pick(heads(one)) & IDS;
+    match rng.below(8) {
+        0..=3 => {
+            let part = *rng.pick(&[1, 2, 4, 7]);
+            mark_some(rng, one, part);
+            mark_some(rng, other, part);
+        }
+        // By one table alone.
+        4 => {
+            let part = *rng.pick(&[1, 4, 8]);
+            mark_some(rng, one, part);
+        }
+        // One column alone, by one table or both.
+        5 | 6 => {
+            mark_id(one, id);
+            if rng.chance(1, 2) {
+                mark_id(other, id);
+            }
+        }
+        // A column that is empty in every row, alone or not.
+        _ => {
+            empty_column(one, id);
+            empty_column(other, id);
+            mark_id(one, id);
+            if rng.chance(1, 2) {
+                mark_some(rng, other, 1);
+            }
+        }
     }
 }
 
@@ -247,10 +343,25 @@ pub fn spread(rng: &mut Rng, ids: &[u32], rows: &[Vec<u32>]) -> (Table, Table) {
     unreachable!()
 }
 
-/// Another accepted pair with the union columns and the T of an outer union.
+/// Another accepted pair with the union columns, their marks and the T of an
+/// outer union.
 pub fn twin(rng: &mut Rng, union: &[u32]) -> Pair {
     let table = Table::from_image(union);
-    pair("twin", spread(rng, &table.ids, &table.rows))
+    let mut made = pair("twin", spread(rng, &table.ids, &table.rows));
+    for (id, word) in table.ids.iter().zip(&union[1..]) {
+        if word & MARK != 0 {
+            // By the first table, the second or both; if that one has no such
+            // column, by the other.
+            let by = rng.between(1, 3);
+            let first = by & 1 != 0 && mark_id(&mut made.first, *id);
+            let second = by & 2 != 0 && mark_id(&mut made.second, *id);
+            if !first && !second {
+                mark_id(&mut made.first, *id);
+                mark_id(&mut made.second, *id);
+            }
+        }
+    }
+    made
 }
 
 /// Random rows with few numbers; a cell is filled in `part` of 8 cases.
@@ -628,8 +739,17 @@ fn wide(rng: &mut Rng) -> (Table, Table) {
     (first, second)
 }
 
-/// A pair that passes questions 1 to 7.
+/// A pair that passes questions 1 to 7, in half of the cases with marks.
 fn sound(rng: &mut Rng) -> Pair {
+    let mut made = plain(rng);
+    if rng.chance(1, 2) {
+        mark(rng, &mut made);
+    }
+    made
+}
+
+/// A pair without marks that passes questions 1 to 7.
+fn plain(rng: &mut Rng) -> Pair {
     match rng.below(33) {
         0..=9 => pair("small", small(rng)),
         10..=13 => pair("any size", any_size(rng)),
@@ -695,8 +815,11 @@ pub fn damage(rng: &mut Rng, image: &mut Vec<u32>, number: usize) {
             if let Some(word) = image.get_mut(place) {
                 match rng.below(3) {
                     0 => *word = *word & NUMBERS | (*rng.pick(&[0, 1, 3])) << 30,
-                    1 => *word |= 1 << rng.between(16, 29),
-                    _ => *word |= (rng.between(1, 0x3FFF) as u32) << 16,
+                    1 => *word |= 1 << rng.between(16, 28),
+                    _ => *word |= (rng.between(1, 0x1FFF) as u32) << 16,
+                }
+                if rng.chance(1, 4) {
+                    *word ^= MARK;
                 }
             }
         }
@@ -705,6 +828,10 @@ pub fn damage(rng: &mut Rng, image: &mut Vec<u32>, number: usize) {
                 let mut places: Vec<usize> = (1..=columns).collect();
                 rng.shuffle(&mut places);
                 image[places[0]] = image[places[1]];
+                // Equal ids, whatever their marks.
+                if rng.chance(1, 2) {
+                    image[places[0]] ^= MARK;
+                }
             }
         }
         _ => {

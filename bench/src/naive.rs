@@ -1,8 +1,8 @@
-//! Brute force straight from the definitions of document 01, with no care for
-//! speed. For T of up to `SUBSET_ROWS` rows the maximal sets are found by
-//! looking at every subset; above that, `Naive` goes through T row by row and
-//! keeps the sets that are maximal among the rows so far. A set list is read
-//! bit by bit.
+//! Brute force straight from the definitions of document 01 and the marks of
+//! request A2, with no care for speed. For T of up to `SUBSET_ROWS` rows the
+//! maximal sets are found by looking at every subset; above that, `Naive` goes
+//! through T row by row and keeps the sets that are maximal among the rows so
+//! far. A set list is read bit by bit.
 
 use crate::{Answer, Call, Reader, Unions, MAX_COLUMNS, MAX_ROWS, MAX_SETS, MAX_SOURCE_ROWS};
 use std::collections::{BTreeMap, BTreeSet};
@@ -13,8 +13,11 @@ pub const SUBSET_ROWS: usize = 12;
 /// A row: a word for each column, 0 for empty.
 type Row = Vec<u32>;
 
+/// A column: its id and whether it is marked.
+type Column = (u32, bool);
+
 struct Table {
-    ids: Vec<u32>,
+    columns: Vec<Column>,
     rows: Vec<Row>,
 }
 
@@ -39,16 +42,16 @@ fn read(image: &[u32]) -> Result<Table, u32> {
     if image.len() != 1 + columns + rows * columns {
         return Err(4);
     }
-    let mut ids = Vec::new();
+    let mut heads: Vec<Column> = Vec::new();
     for &word in &image[1..=columns] {
-        if kind(word) != 2 || (16..=29).any(|bit| word & (1 << bit) != 0) {
+        if kind(word) != 2 || (16..=28).any(|bit| word & (1 << bit) != 0) {
             return Err(5);
         }
-        ids.push(word % (1 << 16));
+        heads.push((word % (1 << 16), word / (1 << 29) % 2 == 1));
     }
     for i in 0..columns {
         for j in 0..i {
-            if ids[i] == ids[j] {
+            if heads[i].0 == heads[j].0 {
                 return Err(6);
             }
         }
@@ -65,22 +68,27 @@ fn read(image: &[u32]) -> Result<Table, u32> {
         let start = 1 + columns + row * columns;
         list.push(image[start..start + columns].to_vec());
     }
-    Ok(Table { ids, rows: list })
+    Ok(Table {
+        columns: heads,
+        rows: list,
+    })
 }
 
-/// Union columns and T.
+/// Union columns, marked if either table marks them, and T.
 fn outer(first: &[u32], second: &[u32]) -> Result<Table, Answer> {
     let first = read(first).map_err(|number| Answer::refused(number, 0))?;
     let second = read(second).map_err(|number| Answer::refused(number, 1))?;
-    let ids: BTreeSet<u32> = first.ids.iter().chain(&second.ids).copied().collect();
+    let both = || first.columns.iter().chain(&second.columns);
+    let ids: BTreeSet<u32> = both().map(|&(id, _)| id).collect();
     if ids.len() > MAX_COLUMNS {
         return Err(Answer::refused(8, 2));
     }
     let mut rows = BTreeSet::new();
     for table in [&first, &second] {
         for row in &table.rows {
+            let heads = table.columns.iter();
             let cells: BTreeMap<u32, u32> =
-                table.ids.iter().copied().zip(row.iter().copied()).collect();
+                heads.map(|&(id, _)| id).zip(row.iter().copied()).collect();
             let padded: Row = ids
                 .iter()
                 .map(|id| cells.get(id).copied().unwrap_or(0))
@@ -89,7 +97,10 @@ fn outer(first: &[u32], second: &[u32]) -> Result<Table, Answer> {
         }
     }
     Ok(Table {
-        ids: ids.into_iter().collect(),
+        columns: ids
+            .into_iter()
+            .map(|id| (id, both().any(|&column| column == (id, true))))
+            .collect(),
         rows: rows.into_iter().collect(),
     })
 }
@@ -103,21 +114,32 @@ pub fn subsumes(s: &[u32], t: &[u32]) -> bool {
     empty_cells(t) > empty_cells(s) && s.iter().zip(t).all(|(a, b)| *b == 0 || a == b)
 }
 
-/// Rows s and t complement each other.
-pub fn complement(s: &[u32], t: &[u32]) -> bool {
+/// The columns that count in condition (3), from the marks of the union's
+/// columns: the marked ones, or all if none is marked.
+pub fn counted(marks: &[bool]) -> Vec<bool> {
+    if marks.contains(&true) {
+        marks.to_vec()
+    } else {
+        vec![true; marks.len()]
+    }
+}
+
+/// Rows s and t complement each other. `counts` tells the columns that count
+/// in condition (3).
+pub fn complement(s: &[u32], t: &[u32], counts: &[bool]) -> bool {
     let agree = s.iter().zip(t).all(|(a, b)| a == b || *a == 0 || *b == 0);
     let apart = s != t && !subsumes(s, t) && !subsumes(t, s);
-    let shared = s.iter().zip(t).any(|(a, b)| *a != 0 && a == b);
+    let shared = (0..s.len()).any(|c| counts[c] && s[c] != 0 && s[c] == t[c]);
     agree && apart && shared
 }
 
 /// For every two different positions: do they complement each other?
-fn relation(rows: &[Row]) -> Vec<Vec<bool>> {
+fn relation(rows: &[Row], counts: &[bool]) -> Vec<Vec<bool>> {
     let n = rows.len();
     (0..n)
         .map(|i| {
             (0..n)
-                .map(|j| i != j && complement(&rows[i], &rows[j]))
+                .map(|j| i != j && complement(&rows[i], &rows[j], counts))
                 .collect()
         })
         .collect()
@@ -195,9 +217,11 @@ fn join(set: u64, rows: &[Row], columns: usize) -> Row {
         .collect()
 }
 
-fn image(ids: &[u32], rows: &[Row]) -> Vec<u32> {
-    let mut words = vec![3 * 0x4000_0000 + rows.len() as u32 * (1 << 18) + ids.len() as u32];
-    words.extend(ids.iter().map(|id| 2 * 0x4000_0000 + id));
+fn image(columns: &[Column], rows: &[Row]) -> Vec<u32> {
+    let mut words = vec![3 * 0x4000_0000 + rows.len() as u32 * (1 << 18) + columns.len() as u32];
+    for &(id, marked) in columns {
+        words.push(2 * 0x4000_0000 + u32::from(marked) * (1 << 29) + id);
+    }
     for row in rows {
         words.extend(row);
     }
@@ -210,8 +234,8 @@ fn filled(rows: &[Row]) -> u32 {
         .sum::<usize>() as u32
 }
 
-fn done(ids: &[u32], rows: &[Row]) -> (Answer, Vec<u32>) {
-    let words = image(ids, rows);
+fn done(columns: &[Column], rows: &[Row]) -> (Answer, Vec<u32>) {
+    let words = image(columns, rows);
     let answer = Answer {
         rows: rows.len() as u32,
         words: words.len() as u32,
@@ -244,10 +268,10 @@ impl Naive {
         table: &mut [u32],
         sets: &mut [u32],
     ) -> Result<Answer, Answer> {
-        let Table { ids, rows } = outer(first, second)?;
+        let Table { columns, rows } = outer(first, second)?;
         let (answer, words, list) = match call {
             Call::Outer => {
-                let (answer, words) = done(&ids, &rows);
+                let (answer, words) = done(&columns, &rows);
                 (answer, words, Vec::new())
             }
             Call::Minimum => {
@@ -269,12 +293,13 @@ impl Naive {
                         kept.push(row.clone());
                     }
                 }
-                let (mut answer, words) = done(&ids, &kept);
+                let (mut answer, words) = done(&columns, &kept);
                 answer.pairs = pairs;
                 (answer, words, Vec::new())
             }
             Call::Complement => {
-                let related = relation(&rows);
+                let marks: Vec<bool> = columns.iter().map(|&(_, marked)| marked).collect();
+                let related = relation(&rows, &counted(&marks));
                 let mut found = if rows.len() <= self.subset_rows {
                     sets_by_subsets(&related)
                 } else {
@@ -292,7 +317,7 @@ impl Naive {
                 });
                 let joined: Vec<Row> = found
                     .iter()
-                    .map(|&set| join(set, &rows, ids.len()))
+                    .map(|&set| join(set, &rows, columns.len()))
                     .collect();
                 let fused: Vec<Row> = joined
                     .iter()
@@ -313,7 +338,7 @@ impl Naive {
                     let place = fused.iter().position(|other| other == row).unwrap();
                     list.push(0x4000_0000 + place as u32);
                 }
-                let (mut answer, words) = done(&ids, &fused);
+                let (mut answer, words) = done(&columns, &fused);
                 answer.sets = found.len() as u32;
                 answer.set_words = list.len() as u32;
                 (answer, words, list)

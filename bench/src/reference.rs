@@ -8,7 +8,9 @@
 //!   Row indices are sorted, not rows.
 //! - Relations between rows are found a column at a time, as 64-bit sets of
 //!   positions: the rows of T with the same number in a column form a group,
-//!   and a row's relations are intersections and unions of groups.
+//!   and a row's relations are intersections and unions of groups. Of shared
+//!   numbers, the groups of the columns that count are taken: the marked ones,
+//!   or all where none is marked.
 //! - The maximal sets come from Bron and Kerbosch's search with a pivot, which
 //!   stops at the 1,025th set, and are then sorted into set order.
 //! - For joining, each cell is coded in 7 bits (0 empty, otherwise the rank of
@@ -31,13 +33,15 @@ const SLOTS: usize = 128;
 
 const HEADER: u32 = 3 << 30;
 const COLUMN: u32 = 2 << 30;
+/// The mark of a column word.
+const MARK: u32 = 1 << 29;
 const MARKS: u32 = 2 << 30;
 const FILLED: u32 = 1 << 30;
 
 /// An image that has passed questions 1 to 7.
 struct Source<'a> {
     columns: usize,
-    /// Column id above four bits of the column's place, ascending.
+    /// Column id above the mark and four bits of the column's place, ascending.
     ids: [u32; MAX_COLUMNS],
     cells: &'a [u32],
 }
@@ -63,7 +67,10 @@ struct Groups {
 /// Working memory of the calls.
 pub struct Reference {
     columns: usize,
-    ids: [u32; MAX_COLUMNS],
+    /// The union's column words.
+    heads: [u32; MAX_COLUMNS],
+    /// Whether one of them is marked.
+    marked: bool,
     /// Padded rows of both tables as they were read.
     rows: [[u64; PAIRS]; MAX_ROWS],
     /// Filled cells of each row in `rows`.
@@ -98,7 +105,8 @@ impl Reference {
     pub const fn new() -> Reference {
         Reference {
             columns: 0,
-            ids: [0; MAX_COLUMNS],
+            heads: [0; MAX_COLUMNS],
+            marked: false,
             rows: [[0; PAIRS]; MAX_ROWS],
             filled: [0; MAX_ROWS],
             order: [0; MAX_ROWS],
@@ -188,27 +196,34 @@ impl Reference {
         let first = check(first).map_err(|number| Answer::refused(number, 0))?;
         let second = check(second).map_err(|number| Answer::refused(number, 1))?;
 
-        // Merge the ascending ids; note the union column of each column.
+        // Merge the ascending ids; note the union column of each column. A
+        // column of both tables has the marks of both.
         let mut places = [[0u8; MAX_COLUMNS]; 2];
         let (mut i, mut j, mut columns) = (0, 0, 0);
+        let mut marks = 0;
         while i < first.columns || j < second.columns {
             if columns == MAX_COLUMNS {
                 return Err(Answer::refused(8, 2));
             }
-            let left = first.ids[..first.columns].get(i).map_or(!0, |id| id >> 4);
-            let right = second.ids[..second.columns].get(j).map_or(!0, |id| id >> 4);
-            self.ids[columns] = left.min(right);
+            let left = first.ids[..first.columns].get(i).map_or(!0, |id| id >> 5);
+            let right = second.ids[..second.columns].get(j).map_or(!0, |id| id >> 5);
+            let mut mark = 0;
             if left <= right {
                 places[0][(first.ids[i] & 15) as usize] = columns as u8;
+                mark |= first.ids[i] << 25 & MARK;
                 i += 1;
             }
             if right <= left {
                 places[1][(second.ids[j] & 15) as usize] = columns as u8;
+                mark |= second.ids[j] << 25 & MARK;
                 j += 1;
             }
+            self.heads[columns] = COLUMN | mark | left.min(right);
+            marks |= mark;
             columns += 1;
         }
         self.columns = columns;
+        self.marked = marks != 0;
 
         let mut count = 0;
         for (source, places) in [(&first, &places[0]), (&second, &places[1])] {
@@ -293,8 +308,9 @@ impl Reference {
     /// The complementing rows of each row of T, and the rows' codes.
     fn relate(&mut self) {
         let count = self.count;
-        // Rows that agree wherever both are filled; that share a number; that
-        // hold all filled cells; that are empty wherever the row is.
+        // Rows that agree wherever both are filled; that share a number in a
+        // column that counts; that hold all filled cells; that are empty
+        // wherever the row is.
         let mut agree = [!0u64; MAX_ROWS];
         let mut share = [0u64; MAX_ROWS];
         let mut cover = [!0u64; MAX_ROWS];
@@ -305,6 +321,8 @@ impl Reference {
             let codes = self.rank(column);
             let shift = CODE_BITS * (self.columns - 1 - column);
             let empty = self.groups.rows[0];
+            let counts = !self.marked || self.heads[column] & MARK != 0;
+            let counted = if counts { !0 } else { 0 };
             for position in 0..count {
                 let group = usize::from(self.groups.of_row[position]);
                 if group == 0 {
@@ -312,7 +330,7 @@ impl Reference {
                 } else {
                     let equal = self.groups.rows[group];
                     agree[position] &= equal | empty;
-                    share[position] |= equal;
+                    share[position] |= equal & counted;
                     cover[position] &= equal;
                     self.codes[position] |= u128::from(codes[group]) << shift;
                 }
@@ -426,9 +444,7 @@ impl Reference {
 
     fn write_head(&self, rows: usize, table: &mut [u32]) {
         table[0] = HEADER | (rows as u32) << 18 | self.columns as u32;
-        for (place, id) in table[1..].iter_mut().zip(&self.ids[..self.columns]) {
-            *place = COLUMN | id;
-        }
+        table[1..=self.columns].copy_from_slice(&self.heads[..self.columns]);
     }
 
     /// Question 10, then writes the rows of T whose positions are in `kept`.
@@ -628,14 +644,14 @@ fn check(image: &[u32]) -> Result<Source<'_>, u32> {
     let (heads, cells) = image[1..].split_at(columns);
     let mut ids = [0u32; MAX_COLUMNS];
     for (place, (id, &word)) in ids.iter_mut().zip(heads).enumerate() {
-        if word >> 16 != COLUMN >> 16 {
+        if word & !(MARK | 0xFFFF) != COLUMN {
             return Err(5);
         }
-        *id = (word & 0xFFFF) << 4 | place as u32;
+        *id = (word & 0xFFFF) << 5 | (word & MARK) >> 25 | place as u32;
     }
     let sorted = &mut ids[..columns];
     sorted.sort_unstable();
-    if sorted.windows(2).any(|pair| pair[0] >> 4 == pair[1] >> 4) {
+    if sorted.windows(2).any(|pair| pair[0] >> 5 == pair[1] >> 5) {
         return Err(6);
     }
     // Kind 1 are the words from 2^30 to 2^31 - 1.

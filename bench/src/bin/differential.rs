@@ -3,8 +3,9 @@
 //! Runs the three calls on generated inputs with the reference, with the
 //! product (feature `product`) and, on a part of the inputs, with the brute
 //! force implementation, and compares the answers and every word of every
-//! buffer, the words around the lent buffers too. For accepted pairs it also
-//! runs complement union on another pair with the same union columns and T.
+//! buffer, the words around the lent buffers too. Half of the pairs have marked
+//! columns. For accepted pairs it also runs complement union on another pair
+//! with the same union columns, marks and T.
 //! Each case also reads a generated set list, sound in half of the cases, and
 //! the list that complement union made, if it was done: this has to give the
 //! sets, and what is read of any accepted list, written again by document 01's
@@ -12,7 +13,9 @@
 //!
 //! At the first difference it prints the whole input as hexadecimal words and
 //! exits with status 1. At the end it prints one line with the number of calls
-//! by outcome; "7/1" is refusal number 7 for table 1.
+//! by outcome; "7/1" is refusal number 7 for table 1. It also tells how many
+//! accepted pairs had a marked union, how many of these would have other sets
+//! without their marks, and in how many of those some rows still complement.
 
 #[cfg(feature = "product")]
 use fusion_bench::ffi::Product;
@@ -108,6 +111,11 @@ struct Differential {
     at_limit: u64,
     rows_left_out: u64,
     shared_joined: u64,
+    /// Accepted pairs with a marked union; of these the ones with other sets
+    /// than without marks; of those the ones with a set of two rows or more.
+    marked: u64,
+    marks_matter: u64,
+    marked_joins: u64,
     /// Buffer for finding out how many words a list takes.
     words: Vec<u32>,
     read_outcomes: BTreeMap<u32, u64>,
@@ -261,6 +269,9 @@ impl Differential {
             at_limit: 0,
             rows_left_out: 0,
             shared_joined: 0,
+            marked: 0,
+            marks_matter: 0,
+            marked_joins: 0,
             words: vec![0; MAX_READ_WORDS],
             read_outcomes: BTreeMap::new(),
             made_lists: 0,
@@ -279,6 +290,25 @@ impl Differential {
                     .complement_union(first, second, &mut self.table, &mut self.sets)
             }
         }
+    }
+
+    /// Answer and set list of complement union, and whether rows complement.
+    fn full_sets(&mut self, pair: &Pair) -> (Answer, Vec<u32>, bool) {
+        let answer = self.full_answer(Call::Complement, pair);
+        let list = self.sets[..answer.set_words as usize].to_vec();
+        let mut sets = self.reference.sets_found();
+        let joins = answer.number == 0 && sets.any(|(set, _)| set.count_ones() > 1);
+        (answer, list, joins)
+    }
+
+    /// Counts an accepted pair with a marked union.
+    fn count_marked(&mut self, pair: &Pair) {
+        let (answer, list, joins) = self.full_sets(pair);
+        let (plain_answer, plain_list, _) = self.full_sets(&generate::unmarked(pair));
+        let matter = answer != plain_answer || list != plain_list;
+        self.marked += 1;
+        self.marks_matter += u64::from(matter);
+        self.marked_joins += u64::from(matter && joins);
     }
 
     /// Runs one call with all implementations. Returns the state afterwards.
@@ -441,6 +471,9 @@ impl Differential {
             }
 
             let accepted = full.number == 0 || full.number == 9;
+            if call == Call::Complement && accepted && generate::is_marked(&union_image) {
+                self.count_marked(&pair);
+            }
             if call == Call::Complement && accepted && rng.chance(1, 4) {
                 self.twins += 1;
                 let twin = generate::twin(&mut rng, &union_image);
@@ -502,6 +535,16 @@ impl Differential {
                 None => missing.push(format!("{name} of the reader")),
             }
         }
+        let counts = [
+            (self.marked, "marked union"),
+            (self.marks_matter, "other sets by marks"),
+            (self.marked_joins, "rows joined by marks"),
+        ];
+        for (count, name) in counts {
+            if count == 0 {
+                missing.push(name.to_string());
+            }
+        }
         let compared = if cfg!(feature = "product") {
             "product and reference equal"
         } else {
@@ -510,6 +553,7 @@ impl Differential {
         println!(
             "{compared}: {cases} cases, {} calls ({}); {} by brute force, {} pairs with the same T, \
              T up to {} rows, sets up to {}, 1,024 sets {}, subsumed rows {}, shared joined rows {}; \
+             marked unions {}, {} with other sets than unmarked, {} of them with rows joined; \
              set lists read: {} ({}), up to {} words, {} of complement union{}",
             self.calls,
             outcomes.join(", "),
@@ -520,6 +564,9 @@ impl Differential {
             self.at_limit,
             self.rows_left_out,
             self.shared_joined,
+            self.marked,
+            self.marks_matter,
+            self.marked_joins,
             self.read_outcomes.values().sum::<u64>(),
             read_outcomes.join(", "),
             self.most_words,

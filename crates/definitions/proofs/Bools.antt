@@ -1,5 +1,5 @@
 -- Laws of tests: cases with their equation, and what a conjunction or disjunction says of its parts. Assumes nothing.
-use mathlib.Core.Path.{_≡_, refl, sym, _∙_}
+use mathlib.Core.Path.{_≡_, refl, sym, _∙_, ap₂}
 use mathlib.Core.Bool.{Bool, true, false, _&&_, _||_, true≢false}
 use mathlib.Core.Logic.{_⊎_, inl, inr}
 
@@ -48,3 +48,15 @@ or-l false b e = absurd (clash refl (sym e))
 pub or-r : (a b : Bool) → b ≡ true → (a || b) ≡ true
 or-r true b e = refl
 or-r false b e = e
+
+pub or-no : {a b : Bool} → a ≡ false → b ≡ false → (a || b) ≡ false
+or-no p q = ap₂ (λ (a b : Bool). a || b) p q
+
+pub or-no-l : (a b : Bool) → (a || b) ≡ false → a ≡ false
+or-no-l a b e = not-so a (λ h. clash (or-l a b h) e)
+
+pub or-no-r : (a b : Bool) → (a || b) ≡ false → b ≡ false
+or-no-r a b e = not-so b (λ h. clash (or-r a b h) e)
+
+pub and-no-r : (a b : Bool) → b ≡ false → (a && b) ≡ false
+and-no-r a b e = not-so (a && b) (λ h. clash (and-r a b h) e)

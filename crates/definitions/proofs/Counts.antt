@@ -11,7 +11,6 @@ use Rattle.definitions.specs.declared.Order.{Order}
 use Rattle.definitions.specs.declared.Order.the-variants.{Before, Same, After}
 use Rattle.definitions.specs.Limits.{markWords, setWidth}
 use Rattle.definitions.specs.Lists.{without}
-use Rattle.definitions.specs.Word.{columnWord}
 use Rattle.definitions.specs.Image.{imageOf}
 use Rattle.definitions.specs.Ascending.{put, insert, ascending}
 use Rattle.definitions.specs.OuterUnion.{compareRow}
@@ -32,14 +31,10 @@ flatten-length c (r ∷ l) f =
     let h = f r (inl refl) in
     length-append r (flatten l) ∙ rw suc-mul (omega arith)
 
-pub image-length : (ids : List ℕ) (rows : List (List ℕ)) → ((r : List ℕ) → Member r rows → length r ≡ length ids)
-    → length (imageOf ids rows) ≡ 1 + length ids + length rows * length ids
+pub image-length : (columns : List ℕ) (rows : List (List ℕ)) → ((r : List ℕ) → Member r rows → length r ≡ length columns)
+    → length (imageOf columns rows) ≡ 1 + length columns + length rows * length columns
 unfolding imageOf
-image-length ids rows f =
-    let w = length-append (map columnWord ids) (flatten rows) in
-    let m = length-map ids columnWord in
-    let c = flatten-length (length ids) rows f in
-    omega arith
+image-length columns rows f = omega (arith, length-append columns (flatten rows), flatten-length (length columns) rows f)
 
 pub marks-length : (n set : ℕ) → length (marksFrom n set) ≡ n
 unfolding marksFrom
@@ -50,16 +45,16 @@ pub record-length : (m set position : ℕ) → length (recordOf m set position) 
 unfolding recordOf
 record-length m set position = length-append (marksFrom m set) _ ∙ omega (arith, marks-length m set)
 
-pub set-record-length : (rows : List (List ℕ)) (s : List Bool) → length (setRecord rows s) ≡ setWidth
+pub set-record-length : (columns : List ℕ) (rows : List (List ℕ)) (s : List Bool) → length (setRecord columns rows s) ≡ setWidth
 unfolding setRecord
-set-record-length rows s = record-length markWords (bits s) _
+set-record-length columns rows s = record-length markWords (bits s) _
 
-pub set-list-length : (rows : List (List ℕ)) → length (setList rows) ≡ 1 + setWidth * length (unionSets rows)
+pub set-list-length : (columns : List ℕ) (rows : List (List ℕ)) → length (setList columns rows) ≡ 1 + setWidth * length (unionSets columns rows)
 unfolding setList listOf
-set-list-length rows =
-    let f = flatten-length setWidth (map (setRecord rows) (unionSets rows))
-    (λ r h. let i = map-member (setRecord rows) r (unionSets rows) h in ap (λ (l : List ℕ). length l) (i .2) ∙ set-record-length rows (i .0)) in
-    let m = length-map (unionSets rows) (setRecord rows) in
+set-list-length columns rows =
+    let f = flatten-length setWidth (map (setRecord columns rows) (unionSets columns rows))
+    (λ r h. let i = map-member (setRecord columns rows) r (unionSets columns rows) h in ap (λ (l : List ℕ). length l) (i .2) ∙ set-record-length columns rows (i .0)) in
+    let m = length-map (unionSets columns rows) (setRecord columns rows) in
     omega arith
 
 -- ---- no more distinct elements than elements
@@ -84,11 +79,11 @@ module _ {A : Type 0} (compare : A → A → Order) where
       omega arith
 
 -- no more joined rows than sets
-pub fused-count : (rows : List (List ℕ)) → length (fusedRows rows) ≤ length (unionSets rows)
+pub fused-count : (columns : List ℕ) (rows : List (List ℕ)) → length (fusedRows columns rows) ≤ length (unionSets columns rows)
 unfolding fusedRows
-fused-count rows =
-    let i = ascending-length compareRow (map (joined rows) (unionSets rows)) in
-    let m = length-map (unionSets rows) (joined rows) in
+fused-count columns rows =
+    let i = ascending-length compareRow (map (joined rows) (unionSets columns rows)) in
+    let m = length-map (unionSets columns rows) (joined rows) in
     omega arith
 
 pub minimum-count : (rows : List (List ℕ)) → length (minimumRows rows) ≤ length rows

@@ -2,14 +2,14 @@
 -- an accepted pair has at most 64 rows in T. Assumes nothing.
 use mathlib.Core.Path.{_≡_, refl, sym, _∙_, ap, ap₂}
 use mathlib.Core.Logic.{inl, inr, ⊎-elim}
-use mathlib.Core.List.{List, [], _∷_, _++_, map, flatten, append-nil, append-assoc}
+use mathlib.Core.List.{List, [], _∷_, _++_, flatten, append-nil, append-assoc}
 use Prim.Native.Nat.{ℕ, zero, suc, _+_, _*_, _^_, _<_, _≤_}
 use native.Mathlib.Nat.{add-comm, suc-mul, zero-mul}
 use native.Mathlib.Omega.{arith}
 use lib.ListN.{length, take, drop, length-append, length-drop, length-map}
 use lib.Seq.{length-take-le, take-add, take-at, drop-at}
 use Rattle.definitions.specs.Limits.{maxRows, maxUnionRows}
-use Rattle.definitions.specs.Word.{rowsOf, columnsOf, headerWord, idOf, columnWord}
+use Rattle.definitions.specs.Word.{rowsOf, columnsOf, headerWord, idOf}
 use Rattle.definitions.specs.Image.{columnCount, rowCount, columnWords, imageIds, cellWords, rowsIn, imageRows, imageOf}
 use Rattle.definitions.specs.OuterUnion.{compareRow, unionIds, widened, widenedRows, unionRows}
 use Rattle.definitions.specs.Statements.{Member}
@@ -26,13 +26,6 @@ header-columns r c h = omega arith
 pub header-rows : (r c : ℕ) → r < 2 ^ 12 → c < 2 ^ 5 → rowsOf (headerWord r c) ≡ r
 header-rows r c h g = omega arith
 
-ids-read : (ids : List ℕ) → ((id : ℕ) → Member id ids → id < 2 ^ 16) → map idOf (map columnWord ids) ≡ ids
-ids-read [] f = refl
-ids-read (x ∷ ids) f =
-    let h = f x (inl refl) in
-    let e : idOf (columnWord x) ≡ x = omega arith in
-    ap₂ (λ (y : ℕ) (l : List ℕ). y ∷ l) e (ids-read ids (λ id g. f id (inr g)))
-
 -- the rows of a list that begins with rows joined
 pub rows-read : (c : ℕ) (rows : List (List ℕ)) (rest : List ℕ) → ((r : List ℕ) → Member r rows → length r ≡ c)
     → rowsIn c (length rows) (flatten rows ++ rest) ≡ rows
@@ -46,35 +39,42 @@ rows-read c (r ∷ rows) rest f =
     ∙ ap (rowsIn c (length rows)) (drop-at r (flatten rows ++ rest) c e)
     ∙ rows-read c rows rest (λ s h. f s (inr h)))
 
-module _ (ids : List ℕ) (rows : List (List ℕ)) (few : length ids < 2 ^ 5) where
-  image-columns : columnCount (imageOf ids rows) ≡ length ids
-  unfolding imageOf
-  image-columns = header-columns (length rows) (length ids) few
+module _ (columns : List ℕ) (rows : List (List ℕ)) (few : length columns < 2 ^ 5) (rest : List ℕ) where
+  -- an image at the front of a longer buffer
+  abbrev front : List ℕ
+  front = imageOf columns rows ++ rest
 
-  pub image-ids : ((id : ℕ) → Member id ids → id < 2 ^ 16) → imageIds (imageOf ids rows) ≡ ids
+  pub count-front : columnCount front ≡ length columns
   unfolding imageOf
-  image-ids f =
-      ap (λ (n : ℕ). map idOf (take n (map columnWord ids ++ flatten rows))) image-columns
-      ∙ ap (map idOf) (take-at (map columnWord ids) (flatten rows) (length ids) (length-map ids columnWord))
-      ∙ ids-read ids f
+  count-front = header-columns (length rows) (length columns) few
 
-  -- the rows of an image at the front of a longer buffer
-  pub image-rows-front : (rest : List ℕ) → length rows < 2 ^ 12 → ((r : List ℕ) → Member r rows → length r ≡ length ids) → imageRows (imageOf ids rows ++ rest) ≡ rows
+  pub words-front : columnWords front ≡ columns
   unfolding imageOf
-  image-rows-front rest g f =
-      let columns : columnCount (imageOf ids rows ++ rest) ≡ length ids = image-columns in
-      let count : rowCount (imageOf ids rows ++ rest) ≡ length rows = header-rows (length rows) (length ids) g few in
-      let past : 1 + columnCount (imageOf ids rows ++ rest) ≡ suc (length ids) = omega (arith, columns) in
-      let cells : cellWords (imageOf ids rows ++ rest) ≡ flatten rows ++ rest =
-      ap (λ (n : ℕ). drop n (imageOf ids rows ++ rest)) past
-      ∙ ap (λ (l : List ℕ). drop (length ids) l) (append-assoc (map columnWord ids) (flatten rows) rest)
-      ∙ drop-at (map columnWord ids) (flatten rows ++ rest) (length ids) (length-map ids columnWord) in
-      ap₂ (λ (c n : ℕ). rowsIn c n (cellWords (imageOf ids rows ++ rest))) columns count
-      ∙ ap (rowsIn (length ids) (length rows)) cells
-      ∙ rows-read (length ids) rows rest f
+  words-front =
+      ap (λ (n : ℕ). take n (columns ++ flatten rows ++ rest)) count-front
+      ∙ ap (take (length columns)) (append-assoc columns (flatten rows) rest)
+      ∙ take-at columns (flatten rows ++ rest) (length columns) refl
 
-  pub image-rows : length rows < 2 ^ 12 → ((r : List ℕ) → Member r rows → length r ≡ length ids) → imageRows (imageOf ids rows) ≡ rows
-  image-rows g f = ap imageRows (sym (append-nil (imageOf ids rows))) ∙ image-rows-front [] g f
+  pub image-rows-front : length rows < 2 ^ 12 → ((r : List ℕ) → Member r rows → length r ≡ length columns) → imageRows front ≡ rows
+  unfolding imageOf
+  image-rows-front g f =
+      let count : rowCount front ≡ length rows = header-rows (length rows) (length columns) g few in
+      let past : 1 + columnCount front ≡ suc (length columns) = omega (arith, count-front) in
+      let cells : cellWords front ≡ flatten rows ++ rest =
+      ap (λ (n : ℕ). drop n front) past
+      ∙ ap (λ (l : List ℕ). drop (length columns) l) (append-assoc columns (flatten rows) rest)
+      ∙ drop-at columns (flatten rows ++ rest) (length columns) refl in
+      ap₂ (λ (c n : ℕ). rowsIn c n (cellWords front)) count-front count
+      ∙ ap (rowsIn (length columns) (length rows)) cells
+      ∙ rows-read (length columns) rows rest f
+
+-- an image that is not followed by other words
+module _ (columns : List ℕ) (rows : List (List ℕ)) (few : length columns < 2 ^ 5) where
+  pub image-columns : columnWords (imageOf columns rows) ≡ columns
+  image-columns = ap columnWords (sym (append-nil (imageOf columns rows))) ∙ words-front columns rows few []
+
+  pub image-rows : length rows < 2 ^ 12 → ((r : List ℕ) → Member r rows → length r ≡ length columns) → imageRows (imageOf columns rows) ≡ rows
+  image-rows g f = ap imageRows (sym (append-nil (imageOf columns rows))) ∙ image-rows-front columns rows few [] g f
 
 -- the words of the first n rows
 pub words-rows : (c n : ℕ) (words : List ℕ) → flatten (rowsIn c n words) ≡ take (n * c) words

@@ -141,7 +141,7 @@ members-even rows n f s r h =
 agree-self : (r : List ℕ) → agree r r ≡ true
 agree-self r = agree-of r r (λ k. inl refl)
 
-module _ (rows : List (List ℕ)) (s : List Bool) (c : Complementing (complementAt rows) (length rows) s) where
+module _ (columns : List ℕ) (rows : List (List ℕ)) (s : List Bool) (c : Complementing (complementAt columns rows) (length rows) s) where
   -- the members of a complementing set agree
   pub members-agree : (r t : List ℕ) → Member r (members rows s) → Member t (members rows s) → agree r t ≡ true
   members-agree r t h g =
@@ -151,8 +151,8 @@ module _ (rows : List (List ℕ)) (s : List Bool) (c : Complementing (complement
       (λ e. subst (λ (u : List ℕ). agree r u ≡ true) (i .3 ∙ ap (λ (k : ℕ). getD rows k []) (eqb-true (i .0) (j .0) e) ∙ sym (j .3)) (agree-self r))
       (λ e.
       let p = c .pairwise (i .0) (j .0) (i .2) (j .2) (eqb-false (i .0) (j .0) e) in
-      let q : complement r t ≡ true = ap₂ complement (i .3) (j .3) ∙ p in
-      agree-of r t (complement-is r t .0 q .agreeing))
+      let q : complement columns r t ≡ true = ap₂ (complement columns) (i .3) (j .3) ∙ p in
+      agree-of r t (complement-is columns r t .0 q .agreeing))
 
   -- each member is equal to or subsumed by the joined row
   pub member-covered : (n : ℕ) → ((r : List ℕ) → Member r rows → length r ≡ n) → (r : List ℕ) → Member r (members rows s)

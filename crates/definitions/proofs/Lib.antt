@@ -5,6 +5,7 @@ pub mod Orders
 pub mod Lists
 pub mod Rows
 pub mod Subsumption
+pub mod Counted
 pub mod Complementing
 pub mod Patterns
 pub mod Sets
@@ -14,6 +15,8 @@ pub mod Joined
 pub mod Minimum
 pub mod Counts
 pub mod Unions
+pub mod UnionColumns
+pub mod Unmarked
 pub mod Questions
 pub mod Outcomes
 pub mod Images

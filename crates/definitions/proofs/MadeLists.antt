@@ -46,45 +46,45 @@ header-is r c h g =
     let spare : headerSpare (headerWord r c) ≡ 0 = omega arith in
     and-i (eq-eqb (kindOf (headerWord r c)) 3 kind) (eq-eqb (headerSpare (headerWord r c)) 0 spare)
 
-module _ (t : List (List ℕ)) (few : length (unionSets t) ≤ maxSets) (rows : length t ≤ maxUnionRows) where
-  pub made-count : setCount (setList t) ≡ length (unionSets t)
-  made-count = ap setCount (sym (append-nil (setList t))) ∙ count-read t [] few
+module _ (columns : List ℕ) (t : List (List ℕ)) (few : length (unionSets columns t) ≤ maxSets) (rows : length t ≤ maxUnionRows) where
+  pub made-count : setCount (setList columns t) ≡ length (unionSets columns t)
+  made-count = ap setCount (sym (append-nil (setList columns t))) ∙ count-read columns t [] few
 
-  made-records : recordsIn markWords (setList t) ≡ map (setRecord t) (unionSets t)
-  made-records = ap (recordsIn markWords) (sym (append-nil (setList t))) ∙ all-read t [] few
+  made-records : recordsIn markWords (setList columns t) ≡ map (setRecord columns t) (unionSets columns t)
+  made-records = ap (recordsIn markWords) (sym (append-nil (setList columns t))) ∙ all-read columns t [] few
 
-  made-form : WellFormed markWords (length t) (setList t)
+  made-form : WellFormed markWords (length t) (setList columns t)
   unfolding setList listOf
   made-form =
-      let sets = map (setRecord t) (unionSets t) in
-      let size = length-map (unionSets t) (setRecord t) in
+      let sets = map (setRecord columns t) (unionSets columns t) in
+      let size = length-map (unionSets columns t) (setRecord columns t) in
       record {
         few-rows = rows;
-        first-word = omega (arith, set-list-length t);
+        first-word = omega (arith, set-list-length columns t);
         header-word = header-is (length sets) setWidth (omega arith) (omega arith);
         width = header-columns (length sets) setWidth (omega arith);
         few-sets = omega (arith, made-count);
-        all-words = set-list-length t ∙ ap (λ (n : ℕ). 1 + setWidth * n) (sym made-count);
+        all-words = set-list-length columns t ∙ ap (λ (n : ℕ). 1 + setWidth * n) (sym made-count);
       }
 
   -- ---- its records
 
-  module _ (s : List Bool) (h : Member s (unionSets t)) where
+  module _ (s : List Bool) (h : Member s (unionSets columns t)) where
     size : length s ≡ length t
-    size = listed-length t [] s h
+    size = listed-length columns t [] s h
 
-    made-positions : positionsOf 0 (setIn markWords (setRecord t s)) ≡ positionsOf 0 s
-    made-positions = positions-read t s (omega (arith, size))
+    made-positions : positionsOf 0 (setIn markWords (setRecord columns t s)) ≡ positionsOf 0 s
+    made-positions = positions-read columns t s (omega (arith, size))
 
-    made-position : joinedPosition markWords (setRecord t s) ≡ fusedPosition t s
-    made-position = position-read t s (listed-position t [] few s h)
+    made-position : joinedPosition markWords (setRecord columns t s) ≡ fusedPosition columns t s
+    made-position = position-read columns t s (listed-position columns t [] few s h)
 
-    made-valid : ValidRecord markWords (length t) (setRecord t s)
+    made-valid : ValidRecord markWords (length t) (setRecord columns t s)
     unfolding setRecord recordOf unionSets
     made-valid =
-        let m = listed-is (complementAt t) (length t) s .0 h .complementing .some in
-        let low = listed-position t [] few s h in
-        let word = row-word t s in
+        let m = listed-is (complementAt columns t) (length t) s .0 h .complementing .some in
+        let low = listed-position columns t [] few s h in
+        let word = row-word columns t s in
         record {
           mark-kinds =
               ap areMarkWords
@@ -100,15 +100,15 @@ module _ (t : List (List ℕ)) (few : length (unionSets t) ≤ maxSets) (rows : 
         }
 
     -- the set of the record is the set, and behind it as many positions for every set of T
-    made-set : setIn markWords (setRecord t s) ≡ s ++ replicate (marksPerWord * markWords - length t) false
+    made-set : setIn markWords (setRecord columns t s) ≡ s ++ replicate (marksPerWord * markWords - length t) false
     made-set =
-        set-wide t s (omega (arith, size)) ∙ ap (λ (n : ℕ). s ++ replicate (marksPerWord * markWords - n) false) size
+        set-wide columns t s (omega (arith, size)) ∙ ap (λ (n : ℕ). s ++ replicate (marksPerWord * markWords - n) false) size
 
-    made-entry : readRecord markWords (setRecord t s) ≡ entryWords (madeEntry t s)
+    made-entry : readRecord markWords (setRecord columns t s) ≡ entryWords (madeEntry columns t s)
     made-entry = ap₂ (λ (l : List ℕ) (p : ℕ). entryWords (record { members = l; joined-position = p })) made-positions made-position
 
-  made-order : (s u : List Bool) → Member s (unionSets t) → Member u (unionSets t) → compareSet s u ≡ Before
-      → compareSet (setIn markWords (setRecord t s)) (setIn markWords (setRecord t u)) ≡ Before
+  made-order : (s u : List Bool) → Member s (unionSets columns t) → Member u (unionSets columns t) → compareSet s u ≡ Before
+      → compareSet (setIn markWords (setRecord columns t s)) (setIn markWords (setRecord columns t u)) ≡ Before
   made-order s u h g e =
       ap₂ compareSet (made-set s h) (made-set u g)
       ∙ set-behind s u (replicate (marksPerWord * markWords - length t) false) (size s h ∙ sym (size u g))
@@ -116,28 +116,28 @@ module _ (t : List (List ℕ)) (few : length (unionSets t) ≤ maxSets) (rows : 
 
   -- ---- the list
 
-  pub list-accepted : AcceptedList (length t) (setList t)
+  pub list-accepted : AcceptedList (length t) (setList columns t)
   unfolding unionSets
   list-accepted = record {
-    listed = well-formed-is markWords (length t) (setList t) .1 made-form;
+    listed = well-formed-is markWords (length t) (setList columns t) .1 made-form;
     records =
         ap (all (isRecord markWords (length t))) made-records
-        ∙ all-of (isRecord markWords (length t)) (map (setRecord t) (unionSets t))
+        ∙ all-of (isRecord markWords (length t)) (map (setRecord columns t) (unionSets columns t))
         (λ words h.
-        let i = map-member (setRecord t) words (unionSets t) h in
+        let i = map-member (setRecord columns t) words (unionSets columns t) h in
         ap (isRecord markWords (length t)) (i .2)
-        ∙ valid-is markWords (length t) (setRecord t (i .0)) .1 (made-valid (i .0) (i .1)));
+        ∙ valid-is markWords (length t) (setRecord columns t (i .0)) .1 (made-valid (i .0) (i .1)));
     ordered =
         subst (λ (l : List (List Bool)). StrictlyAscending compareSet l)
-        (sym (ap (map (setIn markWords)) made-records ∙ map-map (setIn markWords) (setRecord t) (unionSets t)))
-        (strict-image compareSet compareSet (λ s. setIn markWords (setRecord t s)) (unionSets t) made-order
-        (listed-rise (complementAt t) (length t)));
+        (sym (ap (map (setIn markWords)) made-records ∙ map-map (setIn markWords) (setRecord columns t) (unionSets columns t)))
+        (strict-image compareSet compareSet (λ s. setIn markWords (setRecord columns t s)) (unionSets columns t) made-order
+        (listed-rise (complementAt columns t) (length t)));
   }
 
-  pub list-words : readWords markWords (setList t) ≡ madeWords t
+  pub list-words : readWords markWords (setList columns t) ≡ madeWords columns t
   unfolding readWords madeWords
   list-words =
       ap flatten
       (ap (map (readRecord markWords)) made-records
-      ∙ map-map (readRecord markWords) (setRecord t) (unionSets t)
-      ∙ map-ext (λ s. readRecord markWords (setRecord t s)) (λ s. entryWords (madeEntry t s)) (unionSets t) made-entry)
+      ∙ map-map (readRecord markWords) (setRecord columns t) (unionSets columns t)
+      ∙ map-ext (λ s. readRecord markWords (setRecord columns t s)) (λ s. entryWords (madeEntry columns t s)) (unionSets columns t) made-entry)

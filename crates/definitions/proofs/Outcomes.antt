@@ -10,7 +10,7 @@ use lib.Dec.{leb}
 use lib.ListN.{length}
 use borrow.Author.Tests.{leb-true, le-leb, lt-leb}
 use Rattle.definitions.specs.Limits.{maxColumns, maxRows, maxSets}
-use Rattle.definitions.specs.OuterUnion.{unionIds, unionRows}
+use Rattle.definitions.specs.OuterUnion.{unionIds, unionColumns, unionRows}
 use Rattle.definitions.specs.MinimumUnion.{filled, minimumRows, pairsTried}
 use Rattle.definitions.specs.ComplementUnion.{unionSets}
 use Rattle.definitions.specs.SetList.{setList}
@@ -97,27 +97,27 @@ minimum-done a b room values = table-done a b (minimumImage a b) room _ values
 -- ---- complement union, done
 
 pub complement-done : (a b : List ℕ) (room setRoom : ℕ) (values : List ℕ) → (complementOutcome a b room setRoom ≡ done values) ↔ ComplementDone a b room setRoom values
-unfolding complementOutcome
+unfolding complementOutcome fusedImage
 complement-done a b room setRoom values = (to, from)
   where
     to : complementOutcome a b room setRoom ≡ done values → ComplementDone a b room setRoom values
     to e =
         let p = accepted-done a b _ values e in
-        let q = unless-done (no (leb (length (unionSets (unionRows a b))) maxSets) 9) 2 _ values (p .1) in
+        let q = unless-done (no (leb (length (unionSets (unionColumns a b) (unionRows a b))) maxSets) 9) 2 _ values (p .1) in
         let r = unless-done (no (leb (length (fusedImage a b)) room) 10) 2 _ values (q .1) in
-        let u = unless-done (no (leb (length (setList (unionRows a b))) setRoom) 11) 2 _ values (r .1) in
+        let u = unless-done (no (leb (length (setList (unionColumns a b) (unionRows a b))) setRoom) 11) 2 _ values (r .1) in
         record {
           accepted = p .0;
-          few-sets = within-done (length (unionSets (unionRows a b))) maxSets 8 (q .0);
+          few-sets = within-done (length (unionSets (unionColumns a b) (unionRows a b))) maxSets 8 (q .0);
           table-room = within-done (length (fusedImage a b)) room 9 (r .0);
-          set-room = within-done (length (setList (unionRows a b))) setRoom 10 (u .0);
+          set-room = within-done (length (setList (unionColumns a b) (unionRows a b))) setRoom 10 (u .0);
           carries = same-values _ values (u .1);
         }
 
     from : ComplementDone a b room setRoom values → complementOutcome a b room setRoom ≡ done values
     from d =
         accepted-on a b _ (d .accepted)
-        ∙ unless-passed _ 2 _ (within-passed (length (unionSets (unionRows a b))) maxSets 9 (d .few-sets))
+        ∙ unless-passed _ 2 _ (within-passed (length (unionSets (unionColumns a b) (unionRows a b))) maxSets 9 (d .few-sets))
         ∙ unless-passed _ 2 _ (within-passed (length (fusedImage a b)) room 10 (d .table-room))
-        ∙ unless-passed _ 2 _ (within-passed (length (setList (unionRows a b))) setRoom 11 (d .set-room))
+        ∙ unless-passed _ 2 _ (within-passed (length (setList (unionColumns a b) (unionRows a b))) setRoom 11 (d .set-room))
         ∙ ap done (sym (d .carries))

@@ -1,4 +1,5 @@
--- Document 01, "Rows on paper": P1 to P9 as the rows of one joint check of the definitions. Assumes nothing.
+-- Document 01, "Rows on paper": P1 to P9, and five cases of request A2, as the rows of one joint check of the definitions.
+-- Assumes nothing.
 use mathlib.Core.Path.{_≡_, refl}
 use mathlib.Core.Bool.{Bool, true, false, _&&_, Bool·beq}
 use mathlib.Core.List.{List, [], _∷_, map, flatten}
@@ -7,12 +8,12 @@ use Prim.Native.Nat.{ℕ, _+_, _*_}
 use lib.Dec.{eqb}
 use lib.ListN.{length, getD}
 use Rattle.definitions.specs.Lists.{all, any, filter, findIndex, distinct, allBelow, sumBelow}
-use Rattle.definitions.specs.Word.{wordOf}
+use Rattle.definitions.specs.Word.{wordOf, columnWord}
 use Rattle.definitions.specs.Image.{imageOf, imageRows}
 use Rattle.definitions.specs.Ascending.{insert, ascending}
-use Rattle.definitions.specs.OuterUnion.{compareRow, unionIds, widened, widenedRows, unionRows}
+use Rattle.definitions.specs.OuterUnion.{compareRow, unionIds, unionColumns, widened, widenedRows, unionRows}
 use Rattle.definitions.specs.MinimumUnion.{filled, covers, subsumes, minimumRows}
-use Rattle.definitions.specs.ComplementUnion.{sameRow, agree, share, complement, contains, subsets, adjacentToAll, isComplementing, isMaximal, maximalSets, members, join, joinAll, joined, unionSets, fusedRows}
+use Rattle.definitions.specs.ComplementUnion.{sameRow, agree, share, markedCells, countedCells, complement, contains, subsets, adjacentToAll, isComplementing, isMaximal, maximalSets, members, join, joinAll, joined, unionSets, fusedRows}
 use Rattle.definitions.specs.SetList.{bits, marksFrom, recordOf, setRecord, listOf, setList}
 use Rattle.definitions.specs.Questions.{imageNumber}
 use Rattle.definitions.specs.Answer.{Outcome, done, refused}
@@ -31,15 +32,42 @@ abbrev ● : Bool
 abbrev ○ : Bool
 ○ = false
 
+-- a column with an id, and one that is marked
+abbrev column : ℕ → ℕ
+column id = columnWord id ○
+
+abbrev marked : ℕ → ℕ
+marked id = columnWord id ●
+
 -- the columns of a table
 abbrev two : List ℕ
-two = 7 ∷ 9 ∷ []
+two = column 7 ∷ column 9 ∷ []
 
 abbrev three : List ℕ
-three = 7 ∷ 8 ∷ 9 ∷ []
+three = column 7 ∷ column 8 ∷ column 9 ∷ []
 
 abbrev four : List ℕ
-four = 6 ∷ 7 ∷ 8 ∷ 9 ∷ []
+four = column 6 ∷ column 7 ∷ column 8 ∷ column 9 ∷ []
+
+-- request A2: the devices in column 10 have the guest in column 13, and so has the interrupt in column 12; column 11 is empty
+abbrev devices : List (List ℕ)
+devices = (# 7 ∷ ∅ ∷ # 2 ∷ []) ∷ (# 8 ∷ ∅ ∷ # 2 ∷ []) ∷ []
+
+abbrev interrupts : List (List ℕ)
+interrupts = (# 41 ∷ # 2 ∷ []) ∷ []
+
+abbrev deviceUnion : List (List ℕ)
+deviceUnion = (∅ ∷ ∅ ∷ # 41 ∷ # 2 ∷ []) ∷ (# 7 ∷ ∅ ∷ ∅ ∷ # 2 ∷ []) ∷ (# 8 ∷ ∅ ∷ ∅ ∷ # 2 ∷ []) ∷ []
+
+-- the interrupt joined to each device
+abbrev deviceJoined : List (List ℕ)
+deviceJoined = (# 7 ∷ ∅ ∷ # 41 ∷ # 2 ∷ []) ∷ (# 8 ∷ ∅ ∷ # 41 ∷ # 2 ∷ []) ∷ []
+
+abbrev alone : List (List Bool)
+alone = (● ∷ ○ ∷ ○ ∷ []) ∷ (○ ∷ ● ∷ ○ ∷ []) ∷ (○ ∷ ○ ∷ ● ∷ []) ∷ []
+
+abbrev withInterrupt : List (List Bool)
+withInterrupt = (● ∷ ● ∷ ○ ∷ []) ∷ (● ∷ ○ ∷ ● ∷ []) ∷ []
 
 -- what is expected of two rows s and t
 record Verdicts : Type 0 where
@@ -56,7 +84,7 @@ record Verdicts : Type 0 where
 record Case : Type 0 where
   first : List ℕ
   second : List ℕ
-  -- the union's column ids
+  -- the union's column words
   columns : List ℕ
   -- T
   union : List (List ℕ)
@@ -75,8 +103,8 @@ abbrev cases : List Case
 cases =
     -- P1: two tables without rows: no sets, no rows, columns kept
     record {
-      first = imageOf (9 ∷ 7 ∷ []) [];
-      second = imageOf (8 ∷ 7 ∷ []) [];
+      first = imageOf (column 9 ∷ column 7 ∷ []) [];
+      second = imageOf (column 8 ∷ column 7 ∷ []) [];
       columns = three;
       union = [];
       minimum = [];
@@ -231,6 +259,71 @@ cases =
       pair = none;
       again = none;
     }
+    -- A2: no column is marked: the interrupt of their guest is joined to both devices
+    ∷ record {
+      first = imageOf (column 10 ∷ column 11 ∷ column 13 ∷ []) devices;
+      second = imageOf (column 12 ∷ column 13 ∷ []) interrupts;
+      columns = column 10 ∷ column 11 ∷ column 12 ∷ column 13 ∷ [];
+      union = deviceUnion;
+      minimum = deviceUnion;
+      sets = withInterrupt;
+      joinedRows = deviceJoined;
+      fused = deviceJoined;
+      pair = none;
+      again = none;
+    }
+    -- the device is marked: a shared guest number is no evidence, and nothing is joined
+    ∷ record {
+      first = imageOf (marked 10 ∷ column 11 ∷ column 13 ∷ []) devices;
+      second = imageOf (column 12 ∷ column 13 ∷ []) interrupts;
+      columns = marked 10 ∷ column 11 ∷ column 12 ∷ column 13 ∷ [];
+      union = deviceUnion;
+      minimum = deviceUnion;
+      sets = alone;
+      joinedRows = deviceUnion;
+      fused = deviceUnion;
+      pair = none;
+      again = none;
+    }
+    -- the second table alone marks the guest number, at another place
+    ∷ record {
+      first = imageOf (column 10 ∷ column 11 ∷ column 13 ∷ []) devices;
+      second = imageOf (column 12 ∷ marked 13 ∷ []) interrupts;
+      columns = column 10 ∷ column 11 ∷ column 12 ∷ marked 13 ∷ [];
+      union = deviceUnion;
+      minimum = deviceUnion;
+      sets = withInterrupt;
+      joinedRows = deviceJoined;
+      fused = deviceJoined;
+      pair = none;
+      again = none;
+    }
+    -- a mark on a column that is empty everywhere leaves no evidence: nothing is joined
+    ∷ record {
+      first = imageOf (column 10 ∷ marked 11 ∷ column 13 ∷ []) devices;
+      second = imageOf (column 12 ∷ column 13 ∷ []) interrupts;
+      columns = column 10 ∷ marked 11 ∷ column 12 ∷ column 13 ∷ [];
+      union = deviceUnion;
+      minimum = deviceUnion;
+      sets = alone;
+      joinedRows = deviceUnion;
+      fused = deviceUnion;
+      pair = none;
+      again = none;
+    }
+    -- of the rows that share a number with (1,2,-,-), one shares a marked column's
+    ∷ record {
+      first = imageOf (marked 6 ∷ column 7 ∷ []) ((# 1 ∷ # 2 ∷ []) ∷ []);
+      second = imageOf four ((# 1 ∷ ∅ ∷ # 3 ∷ ∅ ∷ []) ∷ (∅ ∷ # 2 ∷ ∅ ∷ # 4 ∷ []) ∷ []);
+      columns = marked 6 ∷ column 7 ∷ column 8 ∷ column 9 ∷ [];
+      union = (∅ ∷ # 2 ∷ ∅ ∷ # 4 ∷ []) ∷ (# 1 ∷ ∅ ∷ # 3 ∷ ∅ ∷ []) ∷ (# 1 ∷ # 2 ∷ ∅ ∷ ∅ ∷ []) ∷ [];
+      minimum = (∅ ∷ # 2 ∷ ∅ ∷ # 4 ∷ []) ∷ (# 1 ∷ ∅ ∷ # 3 ∷ ∅ ∷ []) ∷ (# 1 ∷ # 2 ∷ ∅ ∷ ∅ ∷ []) ∷ [];
+      sets = (● ∷ ○ ∷ ○ ∷ []) ∷ (○ ∷ ● ∷ ● ∷ []) ∷ [];
+      joinedRows = (∅ ∷ # 2 ∷ ∅ ∷ # 4 ∷ []) ∷ (# 1 ∷ # 2 ∷ # 3 ∷ ∅ ∷ []) ∷ [];
+      fused = (∅ ∷ # 2 ∷ ∅ ∷ # 4 ∷ []) ∷ (# 1 ∷ # 2 ∷ # 3 ∷ ∅ ∷ []) ∷ [];
+      pair = none;
+      again = none;
+    }
     ∷ []
 
 -- two lists have the same elements at the same indices
@@ -250,14 +343,14 @@ values (done counts) = counts
 values (refused number table) = []
 
 -- the tests of two rows, of which complementing is put both ways
-pairRight : List ℕ → List ℕ → Verdicts → Bool
-pairRight s t v =
+pairRight : List ℕ → List ℕ → List ℕ → Verdicts → Bool
+pairRight columns s t v =
     Bool·beq (sameRow s t) (v .equal)
     && Bool·beq (share s t) (v .sharing)
     && Bool·beq (subsumes s t) (v .subsuming)
     && Bool·beq (subsumes t s) (v .subsumed)
-    && Bool·beq (complement s t) (v .complementing)
-    && Bool·beq (complement t s) (v .complementing)
+    && Bool·beq (complement columns s t) (v .complementing)
+    && Bool·beq (complement columns t s) (v .complementing)
 
 -- the first row of a table
 firstRow : List ℕ → List ℕ
@@ -283,18 +376,19 @@ right c =
     let a = c .first in
     let b = c .second in
     let t = unionRows a b in
+    let sets = unionSets (c .columns) t in
     hasRows c (outerImage a b) (c .union)
     && hasRows c (minimumImage a b) (c .minimum)
     && hasRows c (fusedImage a b) (c .fused)
-    && same (same Bool·beq) (unionSets t) (c .sets)
-    && same sameRow (map (joined t) (unionSets t)) (c .joinedRows)
+    && same (same Bool·beq) sets (c .sets)
+    && same sameRow (map (joined t) sets) (c .joinedRows)
     && same eqb (values (complementOutcome a b 100 100)) (counts c)
-    && ifSaid (pairRight (firstRow a) (firstRow b)) (c .pair)
+    && ifSaid (pairRight (c .columns) (firstRow a) (firstRow b)) (c .pair)
     && ifSaid (againRight c) (c .again)
 
 paper : all right cases ≡ true
 unfolding pairRight firstRow hasRows againRight counts right all any filter findIndex distinct allBelow sumBelow imageOf flatten insert ascending
-    compareRow unionIds widened widenedRows unionRows filled covers subsumes minimumRows sameRow agree share complement contains subsets
+    compareRow unionIds unionColumns widened widenedRows unionRows filled covers subsumes minimumRows sameRow agree share markedCells countedCells complement contains subsets
     adjacentToAll isComplementing isMaximal maximalSets members join joinAll joined unionSets fusedRows bits marksFrom recordOf setRecord listOf setList
     imageNumber pairOutcome outerImage minimumImage fusedImage complementOutcome
 paper = refl

@@ -9,10 +9,11 @@ use lib.ListN.{length, getD}
 use borrow.Author.Tests.{not-true}
 use Rattle.definitions.specs.Word.{isFilled}
 use Rattle.definitions.specs.MinimumUnion.{covers, subsumes}
-use Rattle.definitions.specs.ComplementUnion.{agree, share, complement}
+use Rattle.definitions.specs.ComplementUnion.{agree, share, countedCells, complement}
 use Rattle.definitions.specs.Claims.{Filled, Complements}
 use Rattle.definitions.proofs.Bools.{bool-cases, bool-eq, clash, not-so, and-l, and-r, and-i, or-cases, or-l, or-r}
-use Rattle.definitions.proofs.Rows.{filled-cell, empty-cell, cell-filled, cell-empty, covers-at, covers-of, agree-at, agree-of, share-at, share-is}
+use Rattle.definitions.proofs.Rows.{filled-cell, empty-cell, cell-filled, cell-empty, covers-at, covers-of, agree-at, agree-of}
+use Rattle.definitions.proofs.Counted.{share-counted}
 use Rattle.definitions.proofs.Subsumption.{covers-self, covers-cases, subsumes-is}
 use Rattle.definitions.proofs.Complementing.{complement-is, complements-sym}
 
@@ -57,32 +58,36 @@ agree-covers s t e h =
     (λ q. ⊎-elim (λ p. inr p) (λ r. ⊎-elim (λ p. absurd (clash (only-of t s k (filled-cell (getD t k 0) q) p) h)) (λ p. inl p) r) (agree-at s t e k))
     (λ q. inl (empty-cell (getD t k 0) q)))
 
--- an agreeing row that is filled nowhere else is equal or subsumed, so does not complement
-no-only : (s t : List ℕ) → length s ≡ length t → Complements s t → only t s ≡ false → ⊥
-no-only s t l c h =
-    ⊎-elim (c .different) (λ q. clash q (c .not-subsuming)) (covers-cases s t l (agree-covers s t (agree-of s t (c .agreeing)) h))
-
 not-subsumed-of : (s t : List ℕ) → only t s ≡ true → subsumes s t ≡ false
 not-subsumed-of s t h = not-so (subsumes s t) (λ e. only-uncovered s t h (subsumes-is s t .0 e .1))
 
--- equally long rows complement each other exactly if each is filled in a column where the other is empty, they share a number, and they agree
-pub complement-pattern : (s t : List ℕ) → length s ≡ length t → complement s t ≡ (only s t && (only t s && (share s t && agree s t)))
-complement-pattern s t l =
-    bool-eq (complement s t) (only s t && (only t s && (share s t && agree s t)))
-    (λ e.
-    let c = complement-is s t .0 e in
-    and-i (bool-cases (only s t) (λ q. q) (λ q. absurd (no-only t s (sym l) (complements-sym s t c) q)))
-    (and-i (bool-cases (only t s) (λ q. q) (λ q. absurd (no-only s t l c q)))
-    (and-i (share-is s t .1 (c .sharing)) (agree-of s t (c .agreeing)))))
-    (λ e.
-    let r = and-r (only s t) (only t s && (share s t && agree s t)) e in
-    let st = and-l (only s t) (only t s && (share s t && agree s t)) e in
-    let ts = and-l (only t s) (share s t && agree s t) r in
-    let u = and-r (only t s) (share s t && agree s t) r in
-    complement-is s t .1 (record {
-      agreeing = agree-at s t (and-r (share s t) (agree s t) u);
-      different = λ q. only-uncovered t s st (subst (λ (x : List ℕ). covers x s ≡ true) q (covers-self s));
-      not-subsuming = not-subsumed-of s t ts;
-      not-subsumed = not-subsumed-of t s st;
-      sharing = share-at s t (and-l (share s t) (agree s t) u);
-    }))
+module _ (columns : List ℕ) where
+  -- an agreeing row that is filled nowhere else is equal or subsumed, so does not complement
+  no-only : (s t : List ℕ) → length s ≡ length t → Complements columns s t → only t s ≡ false → ⊥
+  no-only s t l c h =
+      ⊎-elim (c .different) (λ q. clash q (c .not-subsuming)) (covers-cases s t l (agree-covers s t (agree-of s t (c .agreeing)) h))
+
+  -- equally long rows complement each other exactly if each is filled in a column where the other is empty, they share a number where it
+  -- counts, and they agree
+  pub complement-pattern : (s t : List ℕ) → length s ≡ length t
+      → complement columns s t ≡ (only s t && (only t s && (share (countedCells columns s) (countedCells columns t) && agree s t)))
+  complement-pattern s t l =
+      let sharing = share (countedCells columns s) (countedCells columns t) in
+      bool-eq (complement columns s t) (only s t && (only t s && (sharing && agree s t)))
+      (λ e.
+      let c = complement-is columns s t .0 e in
+      and-i (bool-cases (only s t) (λ q. q) (λ q. absurd (no-only t s (sym l) (complements-sym columns s t c) q)))
+      (and-i (bool-cases (only t s) (λ q. q) (λ q. absurd (no-only s t l c q)))
+      (and-i (share-counted columns s t .1 (c .sharing)) (agree-of s t (c .agreeing)))))
+      (λ e.
+      let r = and-r (only s t) (only t s && (sharing && agree s t)) e in
+      let st = and-l (only s t) (only t s && (sharing && agree s t)) e in
+      let ts = and-l (only t s) (sharing && agree s t) r in
+      let u = and-r (only t s) (sharing && agree s t) r in
+      complement-is columns s t .1 (record {
+        agreeing = agree-at s t (and-r sharing (agree s t) u);
+        different = λ q. only-uncovered t s st (subst (λ (x : List ℕ). covers x s ≡ true) q (covers-self s));
+        not-subsuming = not-subsumed-of s t ts;
+        not-subsumed = not-subsumed-of t s st;
+        sharing = share-counted columns s t .0 (and-l sharing (agree s t) u);
+      }))

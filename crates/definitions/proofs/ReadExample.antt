@@ -7,9 +7,9 @@ use Rattle.definitions.specs.Lists.{all, any, filter, findIndex, allBelo
 use Rattle.definitions.specs.Word.{wordOf, headerWord}
 use Rattle.definitions.specs.Image.{imageOf}
 use Rattle.definitions.specs.Ascending.{insert, ascending, isAscending}
-use Rattle.definitions.specs.OuterUnion.{compareRow, unionIds, widened, widenedRows, unionRows}
+use Rattle.definitions.specs.OuterUnion.{compareRow, unionIds, unionColumns, widened, widenedRows, unionRows}
 use Rattle.definitions.specs.MinimumUnion.{filled, covers, subsumes}
-use Rattle.definitions.specs.ComplementUnion.{sameRow, agree, share, complement, contains, compareSet, subsets}
+use Rattle.definitions.specs.ComplementUnion.{sameRow, agree, share, markedCells, countedCells, complement, contains, compareSet, subsets}
 use Rattle.definitions.specs.ComplementUnion.{adjacentToAll, isComplementing, isMaximal, maximalSets, members}
 use Rattle.definitions.specs.ComplementUnion.{join, joinAll, joined, unionSets, fusedRows}
 use Rattle.definitions.specs.SetList.{bits, marksFrom, recordOf, setRecord, listOf, setList}
@@ -27,9 +27,9 @@ recordThen marks position rest = wordOf 2 marks ∷ wordOf 2 0 ∷ wordOf 2 0 �
 abbrev pub exampleList : List ℕ
 exampleList = headerWord 3 4 ∷ recordThen 0b00011 0 (recordThen 0b00101 1 (recordThen 0b11000 2 []))
 
-pub example-list : setList (unionRows (wordsOf board) (wordsOf plant)) ≡ exampleList
-unfolding flatten all any filter findIndex allBelow imageOf insert ascending compareRow unionIds widened widenedRows
-    unionRows filled covers subsumes sameRow agree share complement contains subsets adjacentToAll isComplementing isMaximal
+pub example-list : setList (unionColumns (wordsOf board) (wordsOf plant)) (unionRows (wordsOf board) (wordsOf plant)) ≡ exampleList
+unfolding flatten all any filter findIndex allBelow imageOf insert ascending compareRow unionIds unionColumns widened widenedRows
+    unionRows filled covers subsumes sameRow agree share markedCells countedCells complement contains subsets adjacentToAll isComplementing isMaximal
     maximalSets members join joinAll joined unionSets fusedRows bits marksFrom recordOf setRecord listOf setList wordsOf
 example-list = refl
 

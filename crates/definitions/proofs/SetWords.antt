@@ -21,26 +21,26 @@ use Rattle.definitions.proofs.Rows.{same-is}
 use Rattle.definitions.proofs.Unions.{fused-rise, fused-are}
 use Rattle.definitions.proofs.Counts.{marks-length}
 
-module _ (t : List (List ℕ)) where
+module _ (columns : List ℕ) (t : List (List ℕ)) where
   -- "and one of kind 1 with the joined row's position in the fused table"
-  pub row-word : (s : List Bool) → getD (setRecord t s) markWords 0 ≡ wordOf 1 (fusedPosition t s)
+  pub row-word : (s : List Bool) → getD (setRecord columns t s) markWords 0 ≡ wordOf 1 (fusedPosition columns t s)
   unfolding setRecord recordOf
-  row-word s = getD-at (marksFrom markWords (bits s)) (wordOf 1 (fusedPosition t s)) [] 0 markWords (marks-length markWords (bits s))
+  row-word s = getD-at (marksFrom markWords (bits s)) (wordOf 1 (fusedPosition columns t s)) [] 0 markWords (marks-length markWords (bits s))
 
   -- the joined row of a listed set stands at its position
-  module _ (s : List Bool) (h : Member s (unionSets t)) where
-    pub fused-position-within : fusedPosition t s < length (fusedRows t)
+  module _ (s : List Bool) (h : Member s (unionSets columns t)) where
+    pub fused-position-within : fusedPosition columns t s < length (fusedRows columns t)
     fused-position-within =
-        findIndex-found (sameRow (joined t s)) (joined t s) (fusedRows t) (fused-are t (joined t s) .1 (s, h, refl)) (same-is (joined t s) (joined t s) .1 refl)
+        findIndex-found (sameRow (joined t s)) (joined t s) (fusedRows columns t) (fused-are columns t (joined t s) .1 (s, h, refl)) (same-is (joined t s) (joined t s) .1 refl)
 
-    pub fused-position-at : getD (fusedRows t) (fusedPosition t s) [] ≡ joined t s
+    pub fused-position-at : getD (fusedRows columns t) (fusedPosition columns t s) [] ≡ joined t s
     fused-position-at =
-        sym (same-is (joined t s) (getD (fusedRows t) (fusedPosition t s) []) .0 (findIndex-at (sameRow (joined t s)) [] (fusedRows t) fused-position-within))
+        sym (same-is (joined t s) (getD (fusedRows columns t) (fusedPosition columns t s) []) .0 (findIndex-at (sameRow (joined t s)) [] (fusedRows columns t) fused-position-within))
 
   -- and in no other
-  pub fused-position-of : (s : List Bool) (k : ℕ) → k < length (fusedRows t) → getD (fusedRows t) k [] ≡ joined t s → fusedPosition t s ≡ k
+  pub fused-position-of : (s : List Bool) (k : ℕ) → k < length (fusedRows columns t) → getD (fusedRows columns t) k [] ≡ joined t s → fusedPosition columns t s ≡ k
   fused-position-of s k h e =
-      ap (λ (r : List ℕ). findIndex (sameRow r) (fusedRows t)) (sym e) ∙ findIndex-strict rows sameRow same-is [] (fusedRows t) k (fused-rise t) h
+      ap (λ (r : List ℕ). findIndex (sameRow r) (fusedRows columns t)) (sym e) ∙ findIndex-strict rows sameRow same-is [] (fusedRows columns t) k (fused-rise columns t) h
 
 -- ---- mark words
 
@@ -85,13 +85,13 @@ mark-word (suc n) set (suc i) h =
     ∙ ap (λ (x : ℕ). wordOf 2 (x % 2 ^ 30)) (shr-shr set 30 (30 * i) ∙ ap (λ (k : ℕ). set / 2 ^ k) e)
 
 -- "three of kind 2 whose low 30 bits mark positions 0–29, 30–59 and 60–63 (lowest bit first ..)"
-pub mark-bit : (t : List (List ℕ)) (s : List Bool) (i j : ℕ) → i < markWords → j < 30 → getD (setRecord t s) i 0 / 2 ^ j % 2 ≡ cond (contains s (30 * i + j)) 1 0
+pub mark-bit : (columns : List ℕ) (t : List (List ℕ)) (s : List Bool) (i j : ℕ) → i < markWords → j < 30 → getD (setRecord columns t s) i 0 / 2 ^ j % 2 ≡ cond (contains s (30 * i + j)) 1 0
 unfolding setRecord recordOf
-mark-bit t s i j h g =
+mark-bit columns t s i j h g =
     let x = bits s / 2 ^ (30 * i) in
     let e : suc (29 - j) + j ≡ 30 = omega arith in
     ap (λ (w : ℕ). w / 2 ^ j % 2)
-    (List·getD-append (marksFrom markWords (bits s)) (wordOf 1 (fusedPosition t s) ∷ []) 0 i (rw (marks-length markWords (bits s)) h) ∙ mark-word markWords (bits s) i h)
+    (List·getD-append (marksFrom markWords (bits s)) (wordOf 1 (fusedPosition columns t s) ∷ []) 0 i (rw (marks-length markWords (bits s)) h) ∙ mark-word markWords (bits s) i h)
     ∙ low-bit 2 (x % 2 ^ 30) j (29 - j) 30 e
     ∙ sym (low-bit (x / 2 ^ 30) (x % 2 ^ 30) j (29 - j) 30 e)
     ∙ ap (λ (y : ℕ). y / 2 ^ j % 2) (split x 30)

@@ -10,7 +10,7 @@ use native.Mathlib.Omega.{arith}
 use lib.Dec.{eqb, leb}
 use lib.ListN.{length, take, length-append, length-map}
 use Rattle.definitions.specs.Limits.{maxColumns, maxRows, maxUnionRows, maxSets}
-use Rattle.definitions.specs.OuterUnion.{unionIds, unionRows}
+use Rattle.definitions.specs.OuterUnion.{unionIds, unionColumns, unionRows}
 use Rattle.definitions.specs.MinimumUnion.{filled, minimumRows, pairsTried}
 use Rattle.definitions.specs.ComplementUnion.{unionSets, fusedRows}
 use Rattle.definitions.specs.SetList.{fusedPosition, setList}
@@ -31,11 +31,11 @@ use Rattle.definitions.proofs.Bools.{bool-cases}
 use Rattle.definitions.proofs.Subsumption.{filled-empties}
 use Rattle.definitions.proofs.Minimum.{minimum-is}
 use Rattle.definitions.proofs.Counts.{flatten-length, fused-count, minimum-count, pairs-bound}
-use Rattle.definitions.proofs.Unions.{rows-even, fused-even}
+use Rattle.definitions.proofs.Unions.{columns-count, rows-even, fused-even}
 use Rattle.definitions.proofs.Outcomes.{complement-done}
 use Rattle.definitions.proofs.Images.{accepted-rows}
 use Rattle.definitions.proofs.Reading.{listed-length, listed-position}
-use Rattle.definitions.proofs.TableWords.{small-ids}
+use Rattle.definitions.proofs.UnionColumns.{small-ids, columns-few}
 use Rattle.definitions.proofs.Lines.{at-most-map, flatten-bound, title-bound, row-bound, refused-bound}
 use Rattle.definitions.proofs.Lines.{set-bound}
 use Rattle.definitions.proofs.Positions.{positions-within, positions-count}
@@ -57,11 +57,14 @@ two : (x y : ℕ) → x < 10 ^ 5 → y < 10 ^ 5 → (z : ℕ) → Member z (x �
 two x y p q z h = ⊎-elim (λ e. omega arith) (λ k. ⊎-elim (λ e. omega arith) (λ n. absurd n) k) h
 
 module _ (a b : List ℕ) (room setRoom : ℕ) (values : List ℕ) (d : ComplementDone a b room setRoom values) where
+  abbrev columns : List ℕ
+  columns = unionColumns a b
+
   abbrev T : List (List ℕ)
   T = unionRows a b
 
   abbrev c : ℕ
-  c = length (unionIds a b)
+  c = length columns
 
   minimum-even : (r : List ℕ) → Member r (minimumRows T) → length r ≡ c
   minimum-even r h = rows-even a b r (minimum-is T r .0 h .0)
@@ -69,8 +72,9 @@ module _ (a b : List ℕ) (room setRoom : ℕ) (values : List ℕ) (d : Compleme
   union-bound : length (unionText a b) ≤ 104 + 18 + rowBytes * maxUnionRows
   unfolding unionText
   union-bound =
-      let few = d .accepted .columns in
+      let few = columns-few a b (d .accepted) in
       let rows = accepted-rows a b (d .accepted) in
+      let count = columns-count a b in
       let ids = title-bound (ascii "columns") (unionIds a b) (λ id s. omega (arith, small-ids a b id s)) in
       let title = title-bound (ascii "union") (length T ∷ filled (flatten T) ∷ [])
       (two (length T) (filled (flatten T)) (omega arith) (filled-small c T (rows-even a b) few (omega arith))) in
@@ -84,7 +88,7 @@ module _ (a b : List ℕ) (room setRoom : ℕ) (values : List ℕ) (d : Compleme
   minimum-bound : length (minimumText a b) ≤ 26 + rowBytes * maxUnionRows
   unfolding minimumText
   minimum-bound =
-      let few = d .accepted .columns in
+      let few = columns-few a b (d .accepted) in
       let most = accepted-rows a b (d .accepted) in
       let M = minimumRows T in
       let fewer = minimum-count T in
@@ -101,25 +105,25 @@ module _ (a b : List ℕ) (room setRoom : ℕ) (values : List ℕ) (d : Compleme
   sets-bound =
       let rows = accepted-rows a b (d .accepted) in
       let few = d .few-sets in
-      let sets = unionSets T in
+      let sets = unionSets columns T in
       let title = title-bound (ascii "sets") (length sets ∷ []) (λ n h. ⊎-elim (λ e. omega arith) (λ k. absurd k) h) in
-      let one : (s : List Bool) → Member s sets → length (setLine (positionsOf 0 s) (fusedPosition T s)) ≤ setBytes =
+      let one : (s : List Bool) → Member s sets → length (setLine (positionsOf 0 s) (fusedPosition columns T s)) ≤ setBytes =
       λ s h.
-      let size = listed-length T [] s h in
+      let size = listed-length columns T [] s h in
       let small : (p : ℕ) → Member p (positionsOf 0 s) → p < 10 ^ 2 = λ p k. omega (arith, positions-within 0 s p k .1) in
-      let place = set-bound (positionsOf 0 s) (fusedPosition T s) small (omega (arith, listed-position T [] few s h)) in
+      let place = set-bound (positionsOf 0 s) (fusedPosition columns T s) small (omega (arith, listed-position columns T [] few s h)) in
       omega (arith, place, positions-count 0 s) in
-      let line-of : List Bool → List ℕ = λ s. setLine (positionsOf 0 s) (fusedPosition T s) in
+      let line-of : List Bool → List ℕ = λ s. setLine (positionsOf 0 s) (fusedPosition columns T s) in
       let lines = flatten-bound setBytes (map line-of sets) (at-most-map setBytes line-of sets one) in
-      omega (arith, length-append (setsTitle (length sets)) (setLines T sets), lines, length-map sets line-of)
+      omega (arith, length-append (setsTitle (length sets)) (setLines columns T sets), lines, length-map sets line-of)
 
   fused-bound : length (fusedText a b) ≤ 18 + rowBytes * maxSets
   unfolding fusedText
   fused-bound =
-      let few = d .accepted .columns in
-      let F = fusedRows T in
-      let even = fused-even T c (rows-even a b) in
-      let most : length F ≤ maxSets = omega (arith, fused-count T, d .few-sets) in
+      let few = columns-few a b (d .accepted) in
+      let F = fusedRows columns T in
+      let even = fused-even columns T c (rows-even a b) in
+      let most : length F ≤ maxSets = omega (arith, fused-count columns T, d .few-sets) in
       let title = title-bound (ascii "fused") (length F ∷ filled (flatten F) ∷ [])
       (two (length F) (filled (flatten F)) (omega arith) (filled-small c F even few most)) in
       omega (arith, length-append (fusedTitle (length F) (filled (flatten F))) (rowLines F), rows-bound c F even few)
@@ -168,14 +172,14 @@ small-image limit image =
     (small-ask (cellsRight image) 7 0 (omega arith) (omega arith)))))))
 
 pub small-refusal : (a b : List ℕ) (room setRoom : ℕ) → SmallRefusal (complementOutcome a b room setRoom)
-unfolding complementOutcome pairOutcome
+unfolding complementOutcome fusedImage pairOutcome
 small-refusal a b room setRoom =
     small-unless (imageNumber maxRows a) 0 _ (small-image maxRows a) (omega arith)
     (small-unless (imageNumber maxRows b) 1 _ (small-image maxRows b) (omega arith)
     (small-unless _ 2 _ (small-no (leb (length (unionIds a b)) maxColumns) 8 (omega arith)) (omega arith)
-    (small-unless _ 2 _ (small-no (leb (length (unionSets (unionRows a b))) maxSets) 9 (omega arith)) (omega arith)
+    (small-unless _ 2 _ (small-no (leb (length (unionSets (unionColumns a b) (unionRows a b))) maxSets) 9 (omega arith)) (omega arith)
     (small-unless _ 2 _ (small-no (leb (length (fusedImage a b)) room) 10 (omega arith)) (omega arith)
-    (small-unless _ 2 _ (small-no (leb (length (setList (unionRows a b))) setRoom) 11 (omega arith)) (omega arith) tt)))))
+    (small-unless _ 2 _ (small-no (leb (length (setList (unionColumns a b) (unionRows a b))) setRoom) 11 (omega arith)) (omega arith) tt)))))
 
 -- ---- the whole text
 

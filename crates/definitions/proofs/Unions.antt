@@ -1,7 +1,6 @@
 -- The columns of the union, T and the fused table in words: strictly ascending, with exactly the ids, widened rows or joined rows that
 -- they are made of, and determined by that; and how long their rows are. Assumes nothing.
 use mathlib.Core.Path.{_≡_, sym, _∙_, ap, subst}
-use mathlib.Core.Bool.{Bool}
 use mathlib.Core.Logic.{_⊎_, inl, inr, ⊎-elim, _↔_}
 use mathlib.Core.List.{List, _++_, map}
 use Prim.Native.Nat.{ℕ, _+_, _*_}
@@ -9,7 +8,7 @@ use lib.ListN.{length, length-map}
 use Rattle.definitions.specs.declared.Order.{Order}
 use Rattle.definitions.specs.Image.{imageIds, imageRows}
 use Rattle.definitions.specs.Ascending.{ascending}
-use Rattle.definitions.specs.OuterUnion.{compareWord, compareRow, unionIds, cellIn, widened, widenedRows, unionRows}
+use Rattle.definitions.specs.OuterUnion.{compareWord, compareRow, unionIds, unionColumns, cellIn, widened, widenedRows, unionRows}
 use Rattle.definitions.specs.MinimumUnion.{minimumRows}
 use Rattle.definitions.specs.ComplementUnion.{complementAt, joined, unionSets, fusedRows}
 use Rattle.definitions.specs.Calls.{outerImage, minimumImage, fusedImage}
@@ -86,53 +85,62 @@ module _ (a b : List ℕ) where
   rows-alone t h f =
       determined rows t (unionRows a b) h rows-rise (λ r k. rows-are r .1 (f r .0 k)) (λ r k. f r .1 (rows-are r .0 k))
 
-  widened-length : (image r : List ℕ) → WidenedOf a b image r → length r ≡ length (unionIds a b)
+  -- the union has a column word for each id
+  pub columns-count : length (unionColumns a b) ≡ length (unionIds a b)
+  unfolding unionColumns
+  columns-count = length-map (unionIds a b) _
+
+  widened-length : (image r : List ℕ) → WidenedOf a b image r → length r ≡ length (unionColumns a b)
   unfolding widened
   widened-length image r i =
-      ap (λ (l : List ℕ). length l) (i .2) ∙ length-map (unionIds a b) (cellIn (imageIds image) (i .0))
+      ap (λ (l : List ℕ). length l) (i .2) ∙ length-map (unionIds a b) (cellIn (imageIds image) (i .0)) ∙ sym columns-count
 
   -- every row of T has a cell for each column of the union
-  pub rows-even : (r : List ℕ) → Member r (unionRows a b) → length r ≡ length (unionIds a b)
+  pub rows-even : (r : List ℕ) → Member r (unionRows a b) → length r ≡ length (unionColumns a b)
   rows-even r h = ⊎-elim (widened-length a r) (widened-length b r) (rows-are r .0 h)
 
 -- ---- "The fused table holds the distinct joined rows, ascending."
 
-module _ (t : List (List ℕ)) where
-  pub fused-rise : StrictlyAscending compareRow (fusedRows t)
+module _ (columns : List ℕ) (t : List (List ℕ)) where
+  pub fused-rise : StrictlyAscending compareRow (fusedRows columns t)
   unfolding fusedRows
-  fused-rise = is-strict rows (map (joined t) (unionSets t))
+  fused-rise = is-strict rows (map (joined t) (unionSets columns t))
 
-  pub fused-are : (r : List ℕ) → Member r (fusedRows t) ↔ JoinedOf t r
+  pub fused-are : (r : List ℕ) → Member r (fusedRows columns t) ↔ JoinedOf columns t r
   unfolding fusedRows
   fused-are r = (
-    λ h. map-member (joined t) r (unionSets t) (ascending-only rows r (map (joined t) (unionSets t)) h),
-    λ i. ascending-has rows r (map (joined t) (unionSets t))
-        (subst (λ (x : List ℕ). Member x (map (joined t) (unionSets t))) (sym (i .2)) (member-map (joined t) (i .0) (unionSets t) (i .1))),
+    λ h. map-member (joined t) r (unionSets columns t) (ascending-only rows r (map (joined t) (unionSets columns t)) h),
+    λ i. ascending-has rows r (map (joined t) (unionSets columns t))
+        (subst (λ (x : List ℕ). Member x (map (joined t) (unionSets columns t))) (sym (i .2)) (member-map (joined t) (i .0) (unionSets columns t) (i .1))),
   )
 
-  pub fused-alone : (f : List (List ℕ)) → StrictlyAscending compareRow f → ((r : List ℕ) → Member r f ↔ JoinedOf t r) → f ≡ fusedRows t
+  pub fused-alone : (f : List (List ℕ)) → StrictlyAscending compareRow f → ((r : List ℕ) → Member r f ↔ JoinedOf columns t r) → f ≡ fusedRows columns t
   fused-alone f h g =
-      determined rows f (fusedRows t) h fused-rise (λ r k. fused-are r .1 (g r .0 k)) (λ r k. g r .1 (fused-are r .0 k))
+      determined rows f (fusedRows columns t) h fused-rise (λ r k. fused-are r .1 (g r .0 k)) (λ r k. g r .1 (fused-are r .0 k))
 
   -- fused rows are as long as the rows that they are joined of
-  pub fused-even : (n : ℕ) → ((r : List ℕ) → Member r t → length r ≡ n) → (r : List ℕ) → Member r (fusedRows t) → length r ≡ n
+  pub fused-even : (n : ℕ) → ((r : List ℕ) → Member r t → length r ≡ n) → (r : List ℕ) → Member r (fusedRows columns t) → length r ≡ n
   unfolding unionSets
   fused-even n f r h =
       let i = fused-are r .0 h in
-      let c = listed-is (complementAt t) (length t) (i .0) .0 (i .1) .complementing in
+      let c = listed-is (complementAt columns t) (length t) (i .0) .0 (i .1) .complementing in
       ap (λ (l : List ℕ). length l) (i .2) ∙ joined-length t n f (i .0) (c .size) (c .some .0) (c .some .1)
 
 -- ---- the words of the results
 
 module _ (a b : List ℕ) where
-  pub outer-length : length (outerImage a b) ≡ 1 + length (unionIds a b) + length (unionRows a b) * length (unionIds a b)
+  abbrev columns : List ℕ
+  columns = unionColumns a b
+
+  pub outer-length : length (outerImage a b) ≡ 1 + length columns + length (unionRows a b) * length columns
   unfolding outerImage
-  outer-length = image-length (unionIds a b) (unionRows a b) (rows-even a b)
+  outer-length = image-length columns (unionRows a b) (rows-even a b)
 
-  pub minimum-length : length (minimumImage a b) ≡ 1 + length (unionIds a b) + length (minimumRows (unionRows a b)) * length (unionIds a b)
+  pub minimum-length : length (minimumImage a b) ≡ 1 + length columns + length (minimumRows (unionRows a b)) * length columns
   unfolding minimumImage
-  minimum-length = image-length (unionIds a b) (minimumRows (unionRows a b)) (λ r h. rows-even a b r (minimum-is (unionRows a b) r .0 h .0))
+  minimum-length = image-length columns (minimumRows (unionRows a b)) (λ r h. rows-even a b r (minimum-is (unionRows a b) r .0 h .0))
 
-  pub fused-length : length (fusedImage a b) ≡ 1 + length (unionIds a b) + length (fusedRows (unionRows a b)) * length (unionIds a b)
+  pub fused-length : length (fusedImage a b) ≡ 1 + length columns + length (fusedRows columns (unionRows a b)) * length columns
   unfolding fusedImage
-  fused-length = image-length (unionIds a b) (fusedRows (unionRows a b)) (fused-even (unionRows a b) (length (unionIds a b)) (rows-even a b))
+  fused-length =
+      image-length columns (fusedRows columns (unionRows a b)) (fused-even columns (unionRows a b) (length columns) (rows-even a b))

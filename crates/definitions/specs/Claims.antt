@@ -3,20 +3,20 @@
 use mathlib.Core.Path.{_≡_}
 use mathlib.Core.Bool.{Bool, true, false, cond}
 use mathlib.Core.Logic.{_⊎_}
-use mathlib.Core.List.{List, [], _∷_, map, flatten}
+use mathlib.Core.List.{List, [], _∷_, map}
 use Prim.Native.Nat.{ℕ, _+_, _≤_, _<_}
 use lib.Dec.{eqb}
 use lib.ListN.{length, getD}
 use Rattle.definitions.specs.Limits.{maxColumns, maxSets, markWords}
-use Rattle.definitions.specs.Lists.{all, distinct}
-use Rattle.definitions.specs.Word.{isFilled, isCell}
+use Rattle.definitions.specs.Lists.{all, any, distinct}
+use Rattle.definitions.specs.Word.{idOf, markOf, isFilled, isCell}
 use Rattle.definitions.specs.Image.{header, columnCount, rowCount, isHeader, isColumn, columnWords, imageIds, cellWords}
 use Rattle.definitions.specs.Image.{imageRows, imageLength}
-use Rattle.definitions.specs.OuterUnion.{unionIds, widened, unionRows}
-use Rattle.definitions.specs.MinimumUnion.{filled, subsumes, minimumRows}
-use Rattle.definitions.specs.ComplementUnion.{contains, compareSet, joined, unionSets, fusedRows}
+use Rattle.definitions.specs.OuterUnion.{unionIds, unionColumns, widened, unionRows}
+use Rattle.definitions.specs.MinimumUnion.{subsumes, minimumRows}
+use Rattle.definitions.specs.ComplementUnion.{contains, compareSet, joined, unionSets}
 use Rattle.definitions.specs.SetList.{setList}
-use Rattle.definitions.specs.Calls.{Accepted, fusedImage}
+use Rattle.definitions.specs.Calls.{Accepted, fusedImage, complementValues}
 use Rattle.definitions.specs.Reading.{setCount, recordsIn, setIn}
 use Rattle.definitions.specs.ReadBack.{isSetList, isRecord, readWords}
 use Rattle.definitions.specs.Statements.{Member, StrictlyAscending}
@@ -44,12 +44,10 @@ pub record TableDone (a b image : List ℕ) (room : ℕ) (counts values : List �
 -- complement union
 pub record ComplementDone (a b : List ℕ) (room setRoom : ℕ) (values : List ℕ) : Type 0 where
   pub accepted : Accepted a b
-  pub few-sets : length (unionSets (unionRows a b)) ≤ maxSets
+  pub few-sets : length (unionSets (unionColumns a b) (unionRows a b)) ≤ maxSets
   pub table-room : length (fusedImage a b) ≤ room
-  pub set-room : length (setList (unionRows a b)) ≤ setRoom
-  pub carries : values
-      ≡ length (fusedRows (unionRows a b)) ∷ length (fusedImage a b) ∷ filled (flatten (fusedRows (unionRows a b)))
-      ∷ length (unionSets (unionRows a b)) ∷ length (setList (unionRows a b)) ∷ []
+  pub set-room : length (setList (unionColumns a b) (unionRows a b)) ≤ setRoom
+  pub carries : values ≡ complementValues (unionColumns a b) (unionRows a b)
 
 -- request A1: a yes to each of the checks 12, 13 and 14
 pub record AcceptedList (rows : ℕ) (list : List ℕ) : Type 0 where
@@ -85,13 +83,25 @@ CellAgrees x y = (x ≡ y) ⊎ ((x ≡ 0) ⊎ (y ≡ 0))
 abbrev pub Shared : List ℕ → List ℕ → Type 0
 Shared s t = (k : ℕ) × Filled (getD s k 0) × (getD s k 0 ≡ getD t k 0)
 
+-- request A2: an image marks the column with an id
+abbrev pub MarkedIn : List ℕ → ℕ → Type 0
+MarkedIn image id = (w : ℕ) × Member w (columnWords image) × (idOf w ≡ id) × (markOf w ≡ true)
+
+-- "If any is marked, condition (3) of complementing counts marked columns only; if none is, any column counts"
+abbrev pub Counts : List ℕ → ℕ → Type 0
+Counts columns k = (markOf (getD columns k 0) ≡ true) ⊎ (any markOf columns ≡ false)
+
+-- a column that counts and is filled in both with the same number
+abbrev pub SharedCounted : List ℕ → List ℕ → List ℕ → Type 0
+SharedCounted columns s t = (k : ℕ) × Counts columns k × Filled (getD s k 0) × (getD s k 0 ≡ getD t k 0)
+
 -- "Rows s and t complement each other if (1) .. (2) .. (3) .."
-pub record Complements (s t : List ℕ) : Type 0 where
+pub record Complements (columns s t : List ℕ) : Type 0 where
   pub agreeing : (k : ℕ) → CellAgrees (getD s k 0) (getD t k 0)
   pub different : s ≡ t → ⊥
   pub not-subsuming : subsumes s t ≡ false
   pub not-subsumed : subsumes t s ≡ false
-  pub sharing : Shared s t
+  pub sharing : SharedCounted columns s t
 
 -- r is a row of an image, with empty cells in the columns that its table lacks
 abbrev pub WidenedOf : List ℕ → List ℕ → List ℕ → List ℕ → Type 0
@@ -124,5 +134,5 @@ abbrev pub MemberAt : List (List ℕ) → List Bool → List ℕ → Type 0
 MemberAt rows s r = (k : ℕ) × (k < length rows) × Holds s k × (r ≡ getD rows k [])
 
 -- r is the joined row of a listed set
-abbrev pub JoinedOf : List (List ℕ) → List ℕ → Type 0
-JoinedOf rows r = (s : List Bool) × Member s (unionSets rows) × (r ≡ joined rows s)
+abbrev pub JoinedOf : List ℕ → List (List ℕ) → List ℕ → Type 0
+JoinedOf columns rows r = (s : List Bool) × Member s (unionSets columns rows) × (r ≡ joined rows s)

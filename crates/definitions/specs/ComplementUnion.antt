@@ -1,4 +1,5 @@
--- Document 01, "Complementation and complement union": complementing rows, maximal complementing sets in set order, and the fused table.
+-- Document 01, "Complementation and complement union", with request A2's condition (3): complementing rows, maximal
+-- complementing sets in set order, and the fused table. `columns` are the union's column words.
 use Prim.Native.Nat.{ℕ, zero, suc}
 use mathlib.Core.Bool.{Bool, true, false, cond, not, _&&_, _||_}
 use mathlib.Core.List.{List, [], _∷_, _++_, map}
@@ -6,8 +7,8 @@ use lib.Dec.{eqb}
 use lib.ListN.{length, getD}
 use Rattle.definitions.specs.declared.Order.{Order}
 use Rattle.definitions.specs.declared.Order.the-variants.{Before, Same, After}
-use Rattle.definitions.specs.Lists.{filter, allBelow}
-use Rattle.definitions.specs.Word.{isFilled}
+use Rattle.definitions.specs.Lists.{any, filter, allBelow}
+use Rattle.definitions.specs.Word.{markOf, isFilled}
 use Rattle.definitions.specs.Ascending.{ascending}
 use Rattle.definitions.specs.OuterUnion.{compareRow}
 use Rattle.definitions.specs.MinimumUnion.{subsumes}
@@ -30,9 +31,24 @@ share [] t = false
 share (x ∷ s) [] = false
 share (x ∷ s) (y ∷ t) = (isFilled x && eqb x y) || share s t
 
--- "Rows s and t complement each other if (1), (2) they aren't equal and neither subsumes the other, (3)"
-unfoldable pub complement : List ℕ → List ℕ → Bool
-complement s t = agree s t && (not (sameRow s t) && not (subsumes s t) && not (subsumes t s)) && share s t
+-- a row with its cells in unmarked columns emptied; it has no more cells than there are columns
+unfoldable pub markedCells : List ℕ → List ℕ → List ℕ
+markedCells [] row = []
+markedCells (w ∷ columns) [] = []
+markedCells (w ∷ columns) (x ∷ row) = cond (markOf w) x 0 ∷ markedCells columns row
+
+-- the cells of a row that condition (3) counts, by request A2: "If any is marked, condition (3) of complementing counts
+-- marked columns only; if none is, any column counts as before."
+unfoldable pub countedCells : List ℕ → List ℕ → List ℕ
+countedCells columns row = cond (any markOf columns) (markedCells columns row) row
+
+-- "Rows s and t complement each other if (1), (2) they aren't equal and neither subsumes the other, (3)", which is put to the
+-- cells that it counts
+unfoldable pub complement : List ℕ → List ℕ → List ℕ → Bool
+complement columns s t =
+    agree s t
+    && (not (sameRow s t) && not (subsumes s t) && not (subsumes t s))
+    && share (countedCells columns s) (countedCells columns t)
 
 -- A set of positions below n is a list of n truth values, that of position 0 first: whether a position is in it.
 unfoldable pub contains : List Bool → ℕ → Bool
@@ -78,8 +94,8 @@ module _ (adjacent : ℕ → ℕ → Bool) (n : ℕ) where
   maximalSets = filter (λ s. isComplementing s && isMaximal s) (subsets n)
 
 -- the rows at two positions complement each other
-abbrev pub complementAt : List (List ℕ) → ℕ → ℕ → Bool
-complementAt rows j k = complement (getD rows j []) (getD rows k [])
+abbrev pub complementAt : List ℕ → List (List ℕ) → ℕ → ℕ → Bool
+complementAt columns rows j k = complement columns (getD rows j []) (getD rows k [])
 
 -- the rows at the positions of a set
 unfoldable pub members : List (List ℕ) → List Bool → List (List ℕ)
@@ -103,10 +119,10 @@ unfoldable pub joined : List (List ℕ) → List Bool → List ℕ
 joined rows s = joinAll (members rows s)
 
 -- the maximal complementing sets of T
-unfoldable pub unionSets : List (List ℕ) → List (List Bool)
-unionSets rows = maximalSets (complementAt rows) (length rows)
+unfoldable pub unionSets : List ℕ → List (List ℕ) → List (List Bool)
+unionSets columns rows = maximalSets (complementAt columns rows) (length rows)
 
 -- fused table, a term of document 01: "The fused table holds the distinct joined rows, ascending. Subsumed joined rows stay
 -- in it."
-unfoldable pub fusedRows : List (List ℕ) → List (List ℕ)
-fusedRows rows = ascending compareRow (map (joined rows) (unionSets rows))
+unfoldable pub fusedRows : List ℕ → List (List ℕ) → List (List ℕ)
+fusedRows columns rows = ascending compareRow (map (joined rows) (unionSets columns rows))

@@ -7,7 +7,7 @@ use Prim.Native.Nat.{ℕ, _<_}
 use lib.ListN.{length, getD, take}
 use Rattle.definitions.specs.Limits.{markWords}
 use Rattle.definitions.specs.Image.{imageRows}
-use Rattle.definitions.specs.OuterUnion.{compareRow, unionRows}
+use Rattle.definitions.specs.OuterUnion.{compareRow, unionColumns, unionRows}
 use Rattle.definitions.specs.MinimumUnion.{subsumes, minimumRows}
 use Rattle.definitions.specs.ComplementUnion.{complement, compareSet, members, joined}
 use Rattle.definitions.specs.Reading.{setCount, recordsIn, setIn, joinedPosition}
@@ -16,7 +16,7 @@ use Rattle.definitions.specs.Statements.{Member, StrictlyAscending}
 
 -- ---- a set of rows of T
 
-module _ (T : List (List ℕ)) (s : List Bool) where
+module _ (columns : List ℕ) (T : List (List ℕ)) (s : List Bool) where
   abbrev pub In : List ℕ → Type 0
   In r = Member r (members T s)
 
@@ -25,8 +25,8 @@ module _ (T : List (List ℕ)) (s : List Bool) where
   pub record MaximalRows : Type 0 where
     pub size : length s ≡ length T
     pub some : (r : List ℕ) × In r
-    pub pairwise : (q r : List ℕ) → In q → In r → (q ≡ r → ⊥) → complement q r ≡ true
-    pub outside : (r : List ℕ) → Member r T → (In r → ⊥) → ((q : List ℕ) → In q → complement r q ≡ true) → ⊥
+    pub pairwise : (q r : List ℕ) → In q → In r → (q ≡ r → ⊥) → complement columns q r ≡ true
+    pub outside : (r : List ℕ) → Member r T → (In r → ⊥) → ((q : List ℕ) → In q → complement columns r q ≡ true) → ⊥
 
 -- ---- the demand
 
@@ -42,11 +42,12 @@ positionAt sets k = joinedPosition markWords (getD (recordsIn markWords sets) k 
 abbrev pub Covered : List ℕ → List ℕ → Type 0
 Covered table t = (f : List ℕ) × Member f (imageRows table) × ((f ≡ t) ⊎ (subsumes f t ≡ true))
 
--- What is read here is what each sentence speaks of; kinds of words, unused bits and column ids are told by the equations of the promise.
-pub record Demand3 (T : List (List ℕ)) (table sets : List ℕ) : Type 0 where
+-- What is read here is what each sentence speaks of; kinds of words, unused bits and column words are told by the equations of the promise.
+-- `columns` are the union's column words: "Comparison is with the new condition" of request A2.
+pub record Demand3 (columns : List ℕ) (T : List (List ℕ)) (table sets : List ℕ) : Type 0 where
   -- "lists a set of rows of T exactly when the set isn't empty, every two different rows in it complement each other,
   -- and no row of T outside it complements all its rows"
-  pub exactly : (s : List Bool) → Member s (listedSets T sets) ↔ MaximalRows T s
+  pub exactly : (s : List Bool) → Member s (listedSets T sets) ↔ MaximalRows columns T s
   -- "Each such set stands in the set list once, in document 01's set order,"
   pub once-in-order : StrictlyAscending compareSet (listedSets T sets)
   -- "with the position of its joined row in the fused table."
@@ -65,7 +66,7 @@ pub record Demand3 (T : List (List ℕ)) (table sets : List ℕ) : Type 0 where
 -- "Whatever the two tables hold, a complement union of them that isn't refused": T is "the distinct rows of the outer
 -- union"
 unfoldable pub MeetsDemand3 : Outcome → List ℕ → List ℕ → List ℕ → List ℕ → Type 0
-MeetsDemand3 answer a b table sets = (values : List ℕ) → answer ≡ done values → Demand3 (unionRows a b) table sets
+MeetsDemand3 answer a b table sets = (values : List ℕ) → answer ≡ done values → Demand3 (unionColumns a b) (unionRows a b) table sets
 
 -- ---- its last sentence
 

@@ -1,10 +1,10 @@
 -- Document 01, "Table image": what the words of an image are, and the image of a table.
 use Prim.Native.Nat.{ℕ, zero, suc, _+_, _*_}
-use mathlib.Core.Bool.{Bool, true, false, _&&_}
+use mathlib.Core.Bool.{Bool, _&&_}
 use mathlib.Core.List.{List, [], _∷_, _++_, map, flatten}
 use lib.Dec.{eqb}
 use lib.ListN.{length, getD, take, drop}
-use Rattle.definitions.specs.Word.{kindOf, rowsOf, columnsOf, headerSpare, headerWord, idOf, columnSpare, columnWord}
+use Rattle.definitions.specs.Word.{kindOf, rowsOf, columnsOf, headerSpare, headerWord, idOf, columnSpare}
 
 -- the first word; 0 stands for it in a list without words
 abbrev pub header : List ℕ → ℕ
@@ -46,6 +46,6 @@ imageRows image = rowsIn (columnCount image) (rowCount image) (cellWords image)
 abbrev pub imageLength : List ℕ → ℕ
 imageLength image = 1 + columnCount image + rowCount image * columnCount image
 
--- the image of the table with these column ids and rows
+-- the image of the table with these column words and rows
 unfoldable pub imageOf : List ℕ → List (List ℕ) → List ℕ
-imageOf ids rows = headerWord (length rows) (length ids) ∷ (map columnWord ids ++ flatten rows)
+imageOf columns rows = headerWord (length rows) (length columns) ∷ (columns ++ flatten rows)

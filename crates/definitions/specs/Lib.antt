@@ -16,6 +16,7 @@ pub mod Reading
 pub mod ReadBack
 pub mod Statements
 pub mod Claims
+pub mod Unmarked
 pub mod Demand3
 pub mod Promise
 pub mod CInterface

@@ -1,13 +1,14 @@
--- Document 01, "Outer union": the columns of the union, rows widened by empty cells, and T.
+-- Document 01, "Outer union", and request A2's marks: the columns of the union, rows widened by empty cells, and T.
 use Prim.Native.Nat.{ℕ}
-use mathlib.Core.Bool.{Bool, true, false, cond}
+use mathlib.Core.Bool.{Bool, cond, _&&_, _||_}
 use mathlib.Core.List.{List, [], _∷_, _++_, map}
 use lib.Dec.{eqb, ltb}
 use lib.ListN.{getD}
 use Rattle.definitions.specs.declared.Order.{Order}
 use Rattle.definitions.specs.declared.Order.the-variants.{Before, Same, After}
-use Rattle.definitions.specs.Lists.{findIndex}
-use Rattle.definitions.specs.Image.{imageIds, imageRows}
+use Rattle.definitions.specs.Lists.{any, findIndex}
+use Rattle.definitions.specs.Word.{idOf, markOf, columnWord}
+use Rattle.definitions.specs.Image.{columnWords, imageIds, imageRows}
 use Rattle.definitions.specs.Ascending.{ascending}
 
 -- words as unsigned numbers
@@ -29,6 +30,18 @@ compareRow (x ∷ s) (y ∷ t) = thenBy (compareWord x y) (compareRow s t)
 -- "Its columns are the ids of both tables, ascending, each once."
 unfoldable pub unionIds : List ℕ → List ℕ → List ℕ
 unionIds a b = ascending compareWord (imageIds a ++ imageIds b)
+
+-- one of a table's column words has the id and the mark
+abbrev pub marks : List ℕ → ℕ → Bool
+marks words id = any (λ w. eqb id (idOf w) && markOf w) words
+
+-- the union's word for an id, told by the column words of both tables: "A column is marked in the union if either table marks it."
+abbrev pub unionColumn : List ℕ → List ℕ → ℕ → ℕ
+unionColumn first second id = columnWord id (marks first id || marks second id)
+
+-- the union's column words
+unfoldable pub unionColumns : List ℕ → List ℕ → List ℕ
+unionColumns a b = map (unionColumn (columnWords a) (columnWords b)) (unionIds a b)
 
 -- the cell of a row in the column with an id; the empty cell where its table lacks that column
 abbrev pub cellIn : List ℕ → List ℕ → ℕ → ℕ

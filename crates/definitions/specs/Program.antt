@@ -5,7 +5,7 @@ use mathlib.Core.List.{List, [], _∷_, _++_, map, flatten}
 use lib.Dec.{eqb}
 use lib.ListN.{length, take}
 use Rattle.definitions.specs.Limits.{maxColumns, maxUnionRows, maxSets}
-use Rattle.definitions.specs.OuterUnion.{unionIds, unionRows}
+use Rattle.definitions.specs.OuterUnion.{unionIds, unionColumns, unionRows}
 use Rattle.definitions.specs.MinimumUnion.{filled, minimumRows, pairsTried}
 use Rattle.definitions.specs.ComplementUnion.{unionSets, fusedRows}
 use Rattle.definitions.specs.SetList.{fusedPosition}
@@ -41,10 +41,10 @@ abbrev pub rowLines : List (List ℕ) → List ℕ
 rowLines rows = flatten (map rowLine rows)
 
 -- the lines of sets of T
-abbrev pub setLines : List (List ℕ) → List (List Bool) → List ℕ
-setLines rows sets = flatten (map (λ set. setLine (positionsOf 0 set) (fusedPosition rows set)) sets)
+abbrev pub setLines : List ℕ → List (List ℕ) → List (List Bool) → List ℕ
+setLines columns rows sets = flatten (map (λ set. setLine (positionsOf 0 set) (fusedPosition columns rows set)) sets)
 
--- the columns and T
+-- the columns and T; a listing shows no mark
 unfoldable pub unionText : List ℕ → List ℕ → List ℕ
 unionText a b =
     columnsLine (unionIds a b)
@@ -58,12 +58,14 @@ minimumText a b =
     ++ rowLines (minimumRows (unionRows a b))
 
 unfoldable pub setsText : List ℕ → List ℕ → List ℕ
-setsText a b = setsTitle (length (unionSets (unionRows a b))) ++ setLines (unionRows a b) (unionSets (unionRows a b))
+setsText a b =
+    let sets = unionSets (unionColumns a b) (unionRows a b) in
+    setsTitle (length sets) ++ setLines (unionColumns a b) (unionRows a b) sets
 
 unfoldable pub fusedText : List ℕ → List ℕ → List ℕ
 fusedText a b =
-    fusedTitle (length (fusedRows (unionRows a b))) (filled (flatten (fusedRows (unionRows a b))))
-    ++ rowLines (fusedRows (unionRows a b))
+    let rows = fusedRows (unionColumns a b) (unionRows a b) in
+    fusedTitle (length rows) (filled (flatten rows)) ++ rowLines rows
 
 unfoldable pub listing : List ℕ → List ℕ → List ℕ
 listing a b = unionText a b ++ (minimumText a b ++ (setsText a b ++ fusedText a b))

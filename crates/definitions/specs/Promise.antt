@@ -5,7 +5,7 @@ use mathlib.Core.List.{List, [], _∷_}
 use Prim.Native.Nat.{ℕ}
 use lib.ListN.{length, take}
 use Rattle.definitions.specs.Limits.{markWords}
-use Rattle.definitions.specs.OuterUnion.{unionIds, unionRows}
+use Rattle.definitions.specs.OuterUnion.{unionColumns, unionRows}
 use Rattle.definitions.specs.SetList.{setList}
 use Rattle.definitions.specs.ComplementUnion.{unionSets}
 use Rattle.definitions.specs.Answer.{Outcome, done, afterwards}
@@ -28,16 +28,16 @@ MinimumPromise a b table = BufferPromise (minimumOutcome a b (length table)) (mi
 pub record ComplementPromise (a b table sets : List ℕ) (answer : Outcome) (tableAfter setsAfter : List ℕ) : Type 0 where
   pub answers : answer ≡ complementOutcome a b (length table) (length sets)
   pub writes : tableAfter ≡ afterwards answer (fusedImage a b) table
-  pub lists : setsAfter ≡ afterwards answer (setList (unionRows a b)) sets
+  pub lists : setsAfter ≡ afterwards answer (setList (unionColumns a b) (unionRows a b)) sets
   -- a done call meets demand 3, sentence by sentence
   pub demand : MeetsDemand3 answer a b tableAfter setsAfter
 
 -- demand 3, last sentence, of two calls: "Any other accepted pair with the same union columns and the same T, given a table
 -- buffer and a set buffer as long as the first pair's, gets from complement union the same answer, done or refused, and
--- the same written words."
+-- the same written words." Request A2: the pairs "must agree in the union's marks too", and the column words hold ids and marks.
 abbrev pub SameCalls : Type 0
 SameCalls =
-    (a b c d : List ℕ) → Accepted a b → Accepted c d → unionIds a b ≡ unionIds c d → unionRows a b ≡ unionRows c d
+    (a b c d : List ℕ) → Accepted a b → Accepted c d → unionColumns a b ≡ unionColumns c d → unionRows a b ≡ unionRows c d
     → (table₁ table₂ sets₁ sets₂ : List ℕ) → length table₁ ≡ length table₂ → length sets₁ ≡ length sets₂
     → (x y : Outcome) (tableAfter₁ tableAfter₂ setsAfter₁ setsAfter₂ : List ℕ)
     → ComplementPromise a b table₁ sets₁ x tableAfter₁ setsAfter₁ → ComplementPromise c d table₂ sets₂ y tableAfter₂ setsAfter₂
@@ -57,8 +57,9 @@ MadeIsRead =
     → ComplementPromise a b table sets (done values) tableAfter setsAfter
     → (words : List ℕ) (answer : Outcome) (wordsAfter : List ℕ)
     → ReadPromise (take (setWords (done values)) setsAfter) (length (unionRows a b)) words answer wordsAfter
-    → BufferPromise (wordsRoom (length (unionSets (unionRows a b))) (madeWords (unionRows a b)) (length words))
-    (madeWords (unionRows a b)) words answer wordsAfter
+    → BufferPromise
+    (wordsRoom (length (unionSets (unionColumns a b) (unionRows a b))) (madeWords (unionColumns a b) (unionRows a b)) (length words))
+    (madeWords (unionColumns a b) (unionRows a b)) words answer wordsAfter
 
 -- "the records of any accepted list, written again by document 01's layout, are the same words": from the words that a done
 -- call of the reader wrote, as many sets and words as its answer says

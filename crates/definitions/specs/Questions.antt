@@ -25,7 +25,7 @@ rowsFit limit image = leb (rowCount image) limit
 abbrev pub lengthFits : List ℕ → Bool
 lengthFits image = eqb (length image) (imageLength image)
 
--- "Is every column word of kind 2 with bits 29 to 16 zero?"
+-- "Is every column word of kind 2 with bits 29 to 16 zero?", where by request A2 number 5 "lets bit 29 pass"
 abbrev pub columnsRight : List ℕ → Bool
 columnsRight image = all isColumn (columnWords image)
 

@@ -89,12 +89,12 @@ readOutcome list rows room =
 
 -- ---- "the sets that made it"
 
-abbrev pub madeEntry : List (List ℕ) → List Bool → Entry
-madeEntry rows s = record { members = positionsOf 0 s; joined-position = fusedPosition rows s }
+abbrev pub madeEntry : List ℕ → List (List ℕ) → List Bool → Entry
+madeEntry columns rows s = record { members = positionsOf 0 s; joined-position = fusedPosition columns rows s }
 
 -- the words of T's sets and of the positions of their joined rows
-unfoldable pub madeWords : List (List ℕ) → List ℕ
-madeWords rows = flatten (map (λ s. entryWords (madeEntry rows s)) (unionSets rows))
+unfoldable pub madeWords : List ℕ → List (List ℕ) → List ℕ
+madeWords columns rows = flatten (map (λ s. entryWords (madeEntry columns rows s)) (unionSets columns rows))
 
 -- ---- "written again by document 01's layout"
 

@@ -19,20 +19,20 @@ marksFrom zero set = []
 marksFrom (suc n) set = wordOf 2 (set % 2 ^ 30) ∷ marksFrom n (set / 2 ^ 30)
 
 -- "the joined row's position in the fused table"
-abbrev pub fusedPosition : List (List ℕ) → List Bool → ℕ
-fusedPosition rows s = findIndex (sameRow (joined rows s)) (fusedRows rows)
+abbrev pub fusedPosition : List ℕ → List (List ℕ) → List Bool → ℕ
+fusedPosition columns rows s = findIndex (sameRow (joined rows s)) (fusedRows columns rows)
 
 -- a record: m mark words of a set, "and one of kind 1 with the joined row's position"
 unfoldable pub recordOf : ℕ → ℕ → ℕ → List ℕ
 recordOf m set position = marksFrom m set ++ (wordOf 1 position ∷ [])
 
-unfoldable pub setRecord : List (List ℕ) → List Bool → List ℕ
-setRecord rows s = recordOf markWords (bits s) (fusedPosition rows s)
+unfoldable pub setRecord : List ℕ → List (List ℕ) → List Bool → List ℕ
+setRecord columns rows s = recordOf markWords (bits s) (fusedPosition columns rows s)
 
 -- "a header of kind 3 (bits 29 to 18 the number of sets, bits 4 to 0 the width ..), then" the records
 unfoldable pub listOf : ℕ → List (List ℕ) → List ℕ
 listOf m records = headerWord (length records) (suc m) ∷ flatten records
 
 -- "The set list is a header of kind 3 .. then 4 words a set"
-unfoldable pub setList : List (List ℕ) → List ℕ
-setList rows = listOf markWords (map (setRecord rows) (unionSets rows))
+unfoldable pub setList : List ℕ → List (List ℕ) → List ℕ
+setList columns rows = listOf markWords (map (setRecord columns rows) (unionSets columns rows))

@@ -1,6 +1,6 @@
 -- Document 01, "Table image": a 32-bit word and its fields. Bit 0 is the lowest.
 use Prim.Native.Nat.{ℕ, zero, suc, _+_, _*_, _/_, _%_, _^_}
-use mathlib.Core.Bool.{Bool, true, false, not}
+use mathlib.Core.Bool.{Bool, true, false, cond, not}
 use lib.Dec.{eqb}
 
 -- "A word's top two bits are its kind"
@@ -24,15 +24,21 @@ headerSpare w = w / 2 ^ 5 % 2 ^ 13
 abbrev pub headerWord : ℕ → ℕ → ℕ
 headerWord rows columns = wordOf 3 (rows * 2 ^ 18 + columns)
 
--- "Then a word for each column, kind 2: bits 15 to 0 hold the column id, bits 29 to 16 are zero."
+-- "Then a word for each column, kind 2: bits 15 to 0 hold the column id"
 abbrev pub idOf : ℕ → ℕ
 idOf w = w % 2 ^ 16
 
-abbrev pub columnSpare : ℕ → ℕ
-columnSpare w = w / 2 ^ 16 % 2 ^ 14
+-- request A2: "Bit 29 of a column word becomes the mark."
+abbrev pub markOf : ℕ → Bool
+markOf w = eqb (w / 2 ^ 29 % 2) 1
 
-abbrev pub columnWord : ℕ → ℕ
-columnWord id = wordOf 2 id
+-- bits 28 to 16 are zero: the question with number 5 "lets bit 29 pass" alone
+abbrev pub columnSpare : ℕ → ℕ
+columnSpare w = w / 2 ^ 16 % 2 ^ 13
+
+-- the column word of an id, marked or not
+abbrev pub columnWord : ℕ → Bool → ℕ
+columnWord id mark = wordOf 2 (cond mark (2 ^ 29) 0 + id)
 
 -- "Kind 0 with all other bits zero is the empty cell. Kind 1 is a filled cell."
 abbrev pub isFilled : ℕ → Bool

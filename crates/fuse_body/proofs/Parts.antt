@@ -12,8 +12,9 @@ use Rattle.definitions.specs.declared.MinimumAnswer.the-variants as minimum
 use Rattle.definitions.specs.declared.ComplementAnswer.{ComplementAnswer}
 use Rattle.definitions.specs.declared.ComplementAnswer.the-variants.{Done, Refused}
 use Rattle.definitions.specs.Limits.{maxUnionRows}
-use Rattle.definitions.specs.Image.{imageIds, imageOf}
-use Rattle.definitions.specs.OuterUnion.{unionIds, unionRows}
+use Rattle.definitions.specs.Word.{idOf}
+use Rattle.definitions.specs.Image.{columnWords, imageOf}
+use Rattle.definitions.specs.OuterUnion.{unionIds, unionColumns, unionRows}
 use Rattle.definitions.specs.MinimumUnion.{filled, minimumRows, pairsTried}
 use Rattle.definitions.specs.ComplementUnion.{unionSets, fusedRows}
 use Rattle.definitions.specs.SetList.{fusedPosition, setRecord, setList}
@@ -33,27 +34,28 @@ use Rattle.definitions.proofs.Unions.{rows-even, fused-even}
 use Rattle.definitions.proofs.Outcomes.{outer-done, minimum-done, complement-done}
 use Rattle.definitions.proofs.Images.{accepted-rows}
 use Rattle.definitions.proofs.Reading.{positions-read, position-read, records-read, listed-length, listed-position}
-use Rattle.definitions.proofs.TableWords.{small-ids, Table, ids-front, rows-front, table-front, table-words}
+use Rattle.definitions.proofs.UnionColumns.{columns-ids, columns-few}
+use Rattle.definitions.proofs.TableWords.{Table, columns-front, rows-front, table-front, table-words}
 use Rattle.listing.specs.Lines.{HasRows, tableLines, unionLines, recordLine, listLines}
 use Rattle.fuse_body.specs.Parts.{IsDone, FusedAnswer, FusedWords}
 
 -- ---- a table at the front of a buffer
 
 -- its words hold these columns and these rows, n of them
-pub record LinesOf (ids : List ℕ) (rows : List (List ℕ)) (n : ℕ) (table : List ℕ) : Type 0 where
+pub record LinesOf (columns : List ℕ) (rows : List (List ℕ)) (n : ℕ) (table : List ℕ) : Type 0 where
   pub within : HasRows table n
-  pub columns : imageIds table ≡ ids
+  pub words : columnWords table ≡ columns
   pub lines : tableLines table n ≡ rowLines rows
 
-holds : (ids : List ℕ) (rows : List (List ℕ)) (n : ℕ) (table rest : List ℕ) → Table ids rows → n ≡ length rows
-    → table ≡ imageOf ids rows ++ rest → LinesOf ids rows n table
-holds ids rows n table rest t e w =
-    subst (λ (k : ℕ). LinesOf ids rows k table) (sym e)
-    (subst (λ (x : List ℕ). LinesOf ids rows (length rows) x) (sym w)
+holds : (columns : List ℕ) (rows : List (List ℕ)) (n : ℕ) (table rest : List ℕ) → Table columns rows → n ≡ length rows
+    → table ≡ imageOf columns rows ++ rest → LinesOf columns rows n table
+holds columns rows n table rest t e w =
+    subst (λ (k : ℕ). LinesOf columns rows k table) (sym e)
+    (subst (λ (x : List ℕ). LinesOf columns rows (length rows) x) (sym w)
     (record {
-      within = table-front ids rows t rest;
-      columns = ids-front ids rows t rest;
-      lines = ap rowLines (rows-front ids rows t rest);
+      within = table-front columns rows t rest;
+      words = columns-front columns rows t rest;
+      lines = ap rowLines (rows-front columns rows t rest);
     }))
 
 -- a done call has left its result
@@ -62,10 +64,13 @@ left : (o : Outcome) (values image found table : List ℕ) → done values ≡ o
 left o values image found table e w = w ∙ ap (λ (x : Outcome). afterwards x image found) (sym e)
 
 module _ (a b : List ℕ) where
+  abbrev columns : List ℕ
+  columns = unionColumns a b
+
   abbrev T : List (List ℕ)
   T = unionRows a b
 
-  minimum-even : (r : List ℕ) → Member r (minimumRows T) → length r ≡ length (unionIds a b)
+  minimum-even : (r : List ℕ) → Member r (minimumRows T) → length r ≡ length columns
   minimum-even r h = rows-even a b r (minimum-is T r .0 h .0)
 
   -- ---- T
@@ -88,12 +93,13 @@ module _ (a b : List ℕ) where
       let n : rows ≡ length T = cc in
       let m : cells ≡ filled (flatten T) = cc in
       let fits = accepted-rows a b (d .accepted) in
-      let t : Table (unionIds a b) T =
-      record { few-ids = d .accepted .columns; small-id = small-ids a b; few-rows = omega (arith, fits); even = rows-even a b } in
-      let h = holds (unionIds a b) T rows table _ t n (left _ values (outerImage a b) found table said (call .writes)) in
+      let t : Table columns T =
+      record { few-columns = columns-few a b (d .accepted); few-rows = omega (arith, fits); even = rows-even a b } in
+      let h = holds columns T rows table _ t n (left _ values (outerImage a b) found table said (call .writes)) in
       record {
         within = h .within;
-        text = ap₂ (λ (ids lines : List ℕ). columnsLine ids ++ (unionTitle rows cells ++ lines)) (h .columns) (h .lines)
+        text = ap₂ (λ (ids lines : List ℕ). columnsLine ids ++ (unionTitle rows cells ++ lines))
+            (ap (map idOf) (h .words) ∙ columns-ids a b) (h .lines)
             ∙ ap₂ (λ (r f : ℕ). columnsLine (unionIds a b) ++ (unionTitle r f ++ rowLines T)) n m;
       }
 
@@ -118,14 +124,13 @@ module _ (a b : List ℕ) where
       let m : cells ≡ filled (flatten M) = cc in
       let p : pairs ≡ pairsTried T = cc in
       let fits = accepted-rows a b (d .accepted) in
-      let t : Table (unionIds a b) M =
+      let t : Table columns M =
       record {
-        few-ids = d .accepted .columns;
-        small-id = small-ids a b;
+        few-columns = columns-few a b (d .accepted);
         few-rows = omega (arith, fits, minimum-count T);
         even = minimum-even;
       } in
-      let h = holds (unionIds a b) M rows table _ t n
+      let h = holds columns M rows table _ t n
       (left _ values (minimumImage a b) found table said (call .writes)) in
       record {
         within = h .within;
@@ -140,7 +145,7 @@ module _ (a b : List ℕ) where
   unfolding outerImage
   done-outer i number table e =
       let accepted = complement-done a b lentTable lentSets (i .values) .0 (i .outcome) .accepted in
-      let room = table-words (unionIds a b) T maxUnionRows (rows-even a b) (accepted .columns) (accepted-rows a b accepted) in
+      let room = table-words columns T maxUnionRows (rows-even a b) (columns-few a b accepted) (accepted-rows a b accepted) in
       let is = outer-done a b lentTable _ .1 (record { accepted = accepted; table-room = omega (arith, room); carries = refl }) in
       let z : _≡_ {A = ℕ} 0 1 = cc in omega arith
 
@@ -149,7 +154,7 @@ module _ (a b : List ℕ) where
   done-minimum i number table e =
       let accepted = complement-done a b lentTable lentSets (i .values) .0 (i .outcome) .accepted in
       let most = accepted-rows a b accepted in
-      let room = table-words (unionIds a b) (minimumRows T) maxUnionRows minimum-even (accepted .columns)
+      let room = table-words columns (minimumRows T) maxUnionRows minimum-even (columns-few a b accepted)
       (omega (arith, most, minimum-count T)) in
       let is = minimum-done a b lentTable _ .1 (record { accepted = accepted; table-room = omega (arith, room); carries = refl }) in
       let z : _≡_ {A = ℕ} 0 1 = cc in omega arith
@@ -167,25 +172,25 @@ module _ (a b : List ℕ) where
   module _ (values : List ℕ) (d : ComplementDone a b lentTable lentSets values) where
     -- the line of a set
     abbrev lineOf : List Bool → List ℕ
-    lineOf s = setLine (positionsOf 0 s) (fusedPosition T s)
+    lineOf s = setLine (positionsOf 0 s) (fusedPosition columns T s)
 
-    record-text : (s : List Bool) → Member s (unionSets T) → recordLine (setRecord T s) ≡ lineOf s
+    record-text : (s : List Bool) → Member s (unionSets columns T) → recordLine (setRecord columns T s) ≡ lineOf s
     record-text s h =
-        ap₂ setLine (positions-read T s (omega (arith, listed-length T [] s h, accepted-rows a b (d .accepted))))
-        (position-read T s (listed-position T [] (d .few-sets) s h))
+        ap₂ setLine (positions-read columns T s (omega (arith, listed-length columns T [] s h, accepted-rows a b (d .accepted))))
+        (position-read columns T s (listed-position columns T [] (d .few-sets) s h))
 
-    list-lines : (rest : List ℕ) → listLines (setList T ++ rest) (length (unionSets T)) ≡ setLines T (unionSets T)
+    list-lines : (rest : List ℕ) → listLines (setList columns T ++ rest) (length (unionSets columns T)) ≡ setLines columns T (unionSets columns T)
     list-lines rest =
-        ap (λ (l : List (List ℕ)). flatten (map recordLine l)) (records-read T rest)
-        ∙ ap flatten (map-map recordLine (setRecord T) (unionSets T)
-        ∙ map-ext (λ (s : List Bool). recordLine (setRecord T s)) lineOf (unionSets T) record-text)
+        ap (λ (l : List (List ℕ)). flatten (map recordLine l)) (records-read columns T rest)
+        ∙ ap flatten (map-map recordLine (setRecord columns T) (unionSets columns T)
+        ∙ map-ext (λ (s : List Bool). recordLine (setRecord columns T s)) lineOf (unionSets columns T) record-text)
 
-    sets-text : (sets rest : List ℕ) (count : ℕ) → sets ≡ setList T ++ rest → count ≡ length (unionSets T)
+    sets-text : (sets rest : List ℕ) (count : ℕ) → sets ≡ setList columns T ++ rest → count ≡ length (unionSets columns T)
         → setsTitle count ++ listLines sets count ≡ setsText a b
     unfolding setsText
     sets-text sets rest count w e =
         ap₂ (λ (l : List ℕ) (k : ℕ). setsTitle k ++ listLines l k) w e
-        ∙ ap (λ (l : List ℕ). setsTitle (length (unionSets T)) ++ l) (list-lines rest)
+        ∙ ap (λ (l : List ℕ). setsTitle (length (unionSets columns T)) ++ l) (list-lines rest)
 
   -- ---- the listing, part by part
 
@@ -227,26 +232,25 @@ module _ {a b fused sets : List ℕ} {answer : ComplementAnswer} (w : FusedAnswe
     pub listed-words : FusedWords a b fused rows cells sets count
     unfolding fusedImage fusedText
     listed-words =
-        let F = fusedRows (T a b) in
+        let F = fusedRows (columns a b) (T a b) in
         let d = complement-done a b lentTable lentSets values .0 (sym said) in
         let carries = d .carries in
         let n : rows ≡ length F = cc in
         let m : cells ≡ filled (flatten F) = cc in
-        let k : count ≡ length (unionSets (T a b)) = cc in
-        let t : Table (unionIds a b) F =
+        let k : count ≡ length (unionSets (columns a b) (T a b)) = cc in
+        let t : Table (columns a b) F =
         record {
-          few-ids = d .accepted .columns;
-          small-id = small-ids a b;
-          few-rows = omega (arith, d .few-sets, fused-count (T a b));
-          even = fused-even (T a b) (length (unionIds a b)) (rows-even a b);
+          few-columns = columns-few a b (d .accepted);
+          few-rows = omega (arith, d .few-sets, fused-count (columns a b) (T a b));
+          even = fused-even (columns a b) (T a b) (length (columns a b)) (rows-even a b);
         } in
-        let h = holds (unionIds a b) F rows fused _ t n (left _ values (fusedImage a b) (w .foundTable) fused (sym (ap complementSays is)) (w .promise .writes)) in
-        let list = left _ values (setList (T a b)) (w .foundSets) sets (sym (ap complementSays is)) (w .promise .lists) in
+        let h = holds (columns a b) F rows fused _ t n (left _ values (fusedImage a b) (w .foundTable) fused (sym (ap complementSays is)) (w .promise .writes)) in
+        let list = left _ values (setList (columns a b) (T a b)) (w .foundSets) sets (sym (ap complementSays is)) (w .promise .lists) in
         record {
           is-done = record { values = values; outcome = sym said };
           table-within = h .within;
           table-text = ap (λ (lines : List ℕ). fusedTitle rows cells ++ lines) (h .lines)
               ∙ ap₂ (λ (r f : ℕ). fusedTitle r f ++ rowLines F) n m;
-          list-within = omega (arith, k, simp length-append at (ap length list), set-list-length (T a b));
+          list-within = omega (arith, k, simp length-append at (ap length list), set-list-length (columns a b) (T a b));
           list-text = sets-text a b values d sets _ count list k;
         }

@@ -29,6 +29,11 @@ fn listings() {
         b"full_tables/board.tbl",
         b"full_tables/plant.tbl",
     );
+    run_case(
+        b"a column is marked:\n",
+        b"marked/board.tbl",
+        b"marked/plant.tbl",
+    );
 }
 
 // A missing file is empty.

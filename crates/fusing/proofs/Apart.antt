@@ -1,4 +1,5 @@
--- Complementing rows told by which columns are filled: some in both, some in each alone. A missing cell counts as empty. Assumes nothing.
+-- Complementing rows told by which columns are filled: some that counts in both, some in each alone. A missing cell counts as empty.
+-- Assumes nothing.
 use mathlib.Core.Path.{_≡_, refl, sym, _∙_, ap}
 use mathlib.Core.Bool.{Bool, true, false, not, _&&_, _||_}
 use mathlib.Core.List.{List, [], _∷_}
@@ -7,8 +8,9 @@ use lib.ListN.{length}
 use lib.Dec.{eqb}
 use borrow.Author.Tests.{eqb-true}
 use Rattle.definitions.specs.Word.{isFilled}
-use Rattle.definitions.specs.ComplementUnion.{agree, share, complement}
+use Rattle.definitions.specs.ComplementUnion.{agree, share, countedCells, complement}
 use Rattle.definitions.proofs.Bools.{bool-cases, clash, and-l, and-r}
+use Rattle.definitions.proofs.Counted.{agree-counted}
 use Rattle.definitions.proofs.Patterns.{only, complement-pattern}
 
 -- some column is filled in both rows
@@ -42,16 +44,22 @@ both-share (x ∷ s) (y ∷ t) e =
     let a = eqb x y || not (isFilled x) || not (isFilled y) in
     cell-share x y (bothIn s t) (share s t) (and-l a (agree s t) e) (both-share s t (and-r a (agree s t) e))
 
-share-agree : (s t : List ℕ) → (share s t && agree s t) ≡ (bothIn s t && agree s t)
-share-agree s t =
+-- the same of the cells of two rows that condition (3) counts: where the rows agree, these agree too
+share-agree : (words s t : List ℕ)
+    → (share (countedCells words s) (countedCells words t) && agree s t) ≡ (bothIn (countedCells words s) (countedCells words t) && agree s t)
+share-agree words s t =
+    let u = countedCells words s in
+    let v = countedCells words t in
     bool-cases (agree s t)
-    (λ e. ap (λ (b : Bool). b && agree s t) (sym (both-share s t e)))
-    (λ e. rw e (none (share s t) ∙ sym (none (bothIn s t))))
+    (λ e. ap (λ (b : Bool). b && agree s t) (sym (both-share u v (agree-counted words s t e))))
+    (λ e. rw e (none (share u v) ∙ sym (none (bothIn u v))))
   where
     none : (b : Bool) → (b && false) ≡ false
     none true = refl
     none false = refl
 
--- equally long rows complement each other exactly if some column is filled in each alone, some in both, and they agree
-pub complement-filled : (s t : List ℕ) → length s ≡ length t → complement s t ≡ (only s t && (only t s && (bothIn s t && agree s t)))
-complement-filled s t l = complement-pattern s t l ∙ ap (λ (b : Bool). only s t && (only t s && b)) (share-agree s t)
+-- equally long rows complement each other exactly if some column is filled in each alone, some that counts in both, and they agree
+pub complement-filled : (words s t : List ℕ) → length s ≡ length t
+    → complement words s t ≡ (only s t && (only t s && (bothIn (countedCells words s) (countedCells words t) && agree s t)))
+complement-filled words s t l =
+    complement-pattern words s t l ∙ ap (λ (b : Bool). only s t && (only t s && b)) (share-agree words s t)

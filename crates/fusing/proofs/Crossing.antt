@@ -1,6 +1,6 @@
 -- The rows that cross a row, column by column: what the words hold of each row. Assumes nothing.
 use mathlib.Core.Path.{_≡_, refl, sym, _∙_, ap, ap₂, subst}
-use mathlib.Core.Bool.{Bool, true, false, not, _&&_, _||_}
+use mathlib.Core.Bool.{Bool, true, false, cond, not, _&&_, _||_}
 use mathlib.Core.List.{List, []}
 use Prim.Native.Nat.{ℕ, _+_, _-_, _*_, _^_, _<_, _≤_}
 use native.Mathlib.Omega.{arith}
@@ -11,8 +11,9 @@ use borrow.Author.Count.{below-more}
 use Rattle.definitions.specs.Limits.{maxUnionRows}
 use Rattle.definitions.specs.Image.{rowsIn}
 use Rattle.definitions.specs.Word.{isFilled}
-use Rattle.definitions.specs.ComplementUnion.{agree, complement}
+use Rattle.definitions.specs.ComplementUnion.{agree, countedCells, complement}
 use Rattle.definitions.proofs.Patterns.{only}
+use Rattle.definitions.proofs.Counted.{counts, counted-at, counted-length}
 use Rattle.lists.proofs.Walks.{next, end}
 use Rattle.definitions.proofs.Images.{rows-length}
 use Rattle.lists.proofs.Flat.{rows-at}
@@ -21,23 +22,26 @@ use Rattle.bitsets.proofs.Bits.{has-both, has-or, has-none, below-in}
 use Rattle.patterns.specs.Columns.{blankOf, filledIn, ColumnsOf}
 use Rattle.patterns.proofs.FilledRows.{filled-has, has-blank, blank-fits}
 use Rattle.patterns.proofs.Parts.{row-length, part-is, part-length}
-use Rattle.fusing.specs.Graph.{Seen, CrossingOf, Crossing}
+use Rattle.fusing.specs.Graph.{CountedColumns, Seen, CrossingOf, Crossing}
 use Rattle.fusing.proofs.Words.{has-lacked}
 use Rattle.fusing.proofs.Apart.{bothIn, complement-filled}
 
 -- ---- one row t, of index k, and the row s: i columns are passed
 
-pub record Passed (s t : List ℕ) (k i shared above within : ℕ) : Type 0 where
-  pub shares : (has shared k || bothIn (drop i s) (drop i t)) ≡ bothIn s t
+-- in `shared` only the cells are looked at that condition (3) counts
+pub record Passed (words s t : List ℕ) (k i shared above within : ℕ) : Type 0 where
+  pub shares : (has shared k || bothIn (drop i (countedCells words s)) (drop i (countedCells words t))) ≡ bothIn (countedCells words s) (countedCells words t)
   pub first : (not (has above k) || only (drop i s) (drop i t)) ≡ only s t
   pub second : (not (has within k) || only (drop i t) (drop i s)) ≡ only t s
 
-share-case : (a x y b : Bool) → ((a || (y && not (not x))) || b) ≡ (a || ((x && y) || b))
-share-case true x y b = refl
-share-case false true true b = refl
-share-case false true false b = refl
-share-case false false true b = refl
-share-case false false false b = refl
+-- n: the column counts
+share-case : (a n x y b : Bool) → ((a || ((n && y) && not (not x))) || b) ≡ (a || (((n && x) && (n && y)) || b))
+share-case true n x y b = refl
+share-case false false x y b = refl
+share-case false true true true b = refl
+share-case false true true false b = refl
+share-case false true false true b = refl
+share-case false true false false b = refl
 
 first-case : (a x y b : Bool) → (not (a && (y || not x)) || b) ≡ (not a || ((x && not y) || b))
 first-case false x y b = refl
@@ -65,30 +69,59 @@ told-case false true true g = refl
 told-case false true false g = refl
 told-case false false y g = refl
 
-module _ (s t : List ℕ) (k : ℕ) (same : length s ≡ length t) (small : k < wordBits) where
-  pub passed-none : Passed s t k 0 0 18446744073709551615 18446744073709551615
+-- a word, and a cell, that is left out where the column does not count
+has-counted : (n : Bool) (w k : ℕ) → has (cond n w 0) k ≡ (n && has w k)
+has-counted true w k = refl
+has-counted false w k = has-none k
+
+filled-counted : (n : Bool) (x : ℕ) → isFilled (cond n x 0) ≡ (n && isFilled x)
+filled-counted true x = refl
+filled-counted false x = refl
+
+module _ (words s t : List ℕ) (k : ℕ) (same : length s ≡ length t) (wide : length s ≡ length words) (small : k < wordBits) where
+  -- the cells that count
+  abbrev u : List ℕ
+  u = countedCells words s
+
+  abbrev v : List ℕ
+  v = countedCells words t
+
+  u-length : length u ≡ length s
+  u-length = counted-length words s (omega arith)
+
+  v-length : length v ≡ length t
+  v-length = counted-length words t (omega arith)
+
+  pub passed-none : Passed words s t k 0 0 18446744073709551615 18446744073709551615
   unfolding rowsBelow
   passed-none =
       let all : has (rowsBelow wordBits) k ≡ true = below-in wordBits k small in
       record {
-        shares = ap (λ (b : Bool). b || bothIn s t) (has-none k);
+        shares = ap (λ (b : Bool). b || bothIn u v) (has-none k);
         first = ap (λ (b : Bool). not b || only s t) all;
         second = ap (λ (b : Bool). not b || only t s) all;
       }
 
   -- the next column, whose words hold what the cells say
-  module _ (i shared above within : ℕ) (p : Passed s t k i shared above within) (filled empty : ℕ) (more : i < length s) (fits : filled < 2 ^ wordBits)
-      (fits-empty : empty < 2 ^ wordBits) (f : has filled k ≡ isFilled (getD t i 0)) (e : has empty k ≡ not (isFilled (getD s i 0))) where
-    shared-more : (has (bitOr shared (bitAnd filled (2 ^ wordBits - 1 - empty))) k || bothIn (drop (i + 1) s) (drop (i + 1) t)) ≡ bothIn s t
+  module _ (i shared above within : ℕ) (p : Passed words s t k i shared above within) (filled counted empty : ℕ) (more : i < length s)
+      (fits : filled < 2 ^ wordBits) (fits-empty : empty < 2 ^ wordBits) (f : has filled k ≡ isFilled (getD t i 0))
+      (n : has counted k ≡ (counts words i && isFilled (getD t i 0))) (e : has empty k ≡ not (isFilled (getD s i 0))) where
+    shared-more : (has (bitOr shared (bitAnd counted (2 ^ wordBits - 1 - empty))) k || bothIn (drop (i + 1) u) (drop (i + 1) v)) ≡ bothIn u v
     unfolding both bothIn
     shared-more =
-        let rest = bothIn (drop (i + 1) s) (drop (i + 1) t) in
+        let rest = bothIn (drop (i + 1) u) (drop (i + 1) v) in
+        let x : isFilled (getD u i 0) ≡ (counts words i && isFilled (getD s i 0)) =
+        ap isFilled (counted-at words s i) ∙ filled-counted (counts words i) (getD s i 0) in
+        let y : isFilled (getD v i 0) ≡ (counts words i && isFilled (getD t i 0)) =
+        ap isFilled (counted-at words t i) ∙ filled-counted (counts words i) (getD t i 0) in
         ap (λ (b : Bool). b || rest)
-        (has-or shared (bitAnd filled (2 ^ wordBits - 1 - empty)) k
+        (has-or shared (bitAnd counted (2 ^ wordBits - 1 - empty)) k
         ∙ ap (λ (b : Bool). has shared k || b)
-        (has-both filled (2 ^ wordBits - 1 - empty) k ∙ ap₂ (λ (a b : Bool). a && b) f (has-lacked wordBits empty k fits-empty small ∙ ap not e)))
-        ∙ share-case (has shared k) (isFilled (getD s i 0)) (isFilled (getD t i 0)) rest
-        ∙ ap (λ (b : Bool). has shared k || b) (sym (ap₂ bothIn (next 0 s i more) (next 0 t i (omega arith))))
+        (has-both counted (2 ^ wordBits - 1 - empty) k ∙ ap₂ (λ (a b : Bool). a && b) n (has-lacked wordBits empty k fits-empty small ∙ ap not e)))
+        ∙ share-case (has shared k) (counts words i) (isFilled (getD s i 0)) (isFilled (getD t i 0)) rest
+        ∙ ap₂ (λ (a b : Bool). has shared k || ((a && b) || rest)) (sym x) (sym y)
+        ∙ ap (λ (b : Bool). has shared k || b)
+        (sym (ap₂ bothIn (next 0 u i (omega (arith, u-length))) (next 0 v i (omega (arith, v-length)))))
         ∙ p .shares
 
     first-more : (not (has (bitAnd above (bitOr filled empty)) k) || only (drop (i + 1) s) (drop (i + 1) t)) ≡ only s t
@@ -115,95 +148,116 @@ module _ (s t : List ℕ) (k : ℕ) (same : length s ≡ length t) (small : k < 
         ∙ ap (λ (b : Bool). not (has within k) || b) (sym (ap₂ only (next 0 t i (omega arith)) (next 0 s i more)))
         ∙ p .second
 
-    pub passed-more : Passed s t k (i + 1) (bitOr shared (bitAnd filled (2 ^ wordBits - 1 - empty))) (bitAnd above (bitOr filled empty))
+    pub passed-more : Passed words s t k (i + 1) (bitOr shared (bitAnd counted (2 ^ wordBits - 1 - empty))) (bitAnd above (bitOr filled empty))
         (bitAnd within (2 ^ wordBits - 1 - bitAnd filled empty))
     passed-more = record { shares = shared-more; first = first-more; second = second-more }
 
   -- all columns are passed
-  passed-told : (i shared above within : ℕ) → length s ≤ i → above < 2 ^ wordBits → within < 2 ^ wordBits → Passed s t k i shared above within
-      → complement s t ≡ (has (bitAnd (bitAnd shared (2 ^ wordBits - 1 - above)) (2 ^ wordBits - 1 - within)) k && agree s t)
+  passed-told : (i shared above within : ℕ) → length s ≤ i → above < 2 ^ wordBits → within < 2 ^ wordBits → Passed words s t k i shared above within
+      → complement words s t ≡ (has (bitAnd (bitAnd shared (2 ^ wordBits - 1 - above)) (2 ^ wordBits - 1 - within)) k && agree s t)
   unfolding both bothIn only
   passed-told i shared above within all fa fw p =
       let es : drop i s ≡ [] = end s i all in
       let et : drop i t ≡ [] = end t i (omega arith) in
-      let sh : has shared k ≡ bothIn s t = sym (ap₂ (λ (u v : List ℕ). has shared k || bothIn u v) es et ∙ none (has shared k)) ∙ p .shares in
-      let fi : not (has above k) ≡ only s t = sym (ap₂ (λ (u v : List ℕ). not (has above k) || only u v) es et ∙ none (not (has above k))) ∙ p .first in
-      let se : not (has within k) ≡ only t s = sym (ap₂ (λ (u v : List ℕ). not (has within k) || only u v) et es ∙ none (not (has within k))) ∙ p .second in
-      let two : has (bitAnd shared (2 ^ wordBits - 1 - above)) k ≡ (bothIn s t && only s t) =
+      let eu : drop i u ≡ [] = end u i (omega (arith, u-length)) in
+      let ev : drop i v ≡ [] = end v i (omega (arith, v-length)) in
+      let sh : has shared k ≡ bothIn u v = sym (ap₂ (λ (x y : List ℕ). has shared k || bothIn x y) eu ev ∙ none (has shared k)) ∙ p .shares in
+      let fi : not (has above k) ≡ only s t = sym (ap₂ (λ (x y : List ℕ). not (has above k) || only x y) es et ∙ none (not (has above k))) ∙ p .first in
+      let se : not (has within k) ≡ only t s = sym (ap₂ (λ (x y : List ℕ). not (has within k) || only x y) et es ∙ none (not (has within k))) ∙ p .second in
+      let two : has (bitAnd shared (2 ^ wordBits - 1 - above)) k ≡ (bothIn u v && only s t) =
       has-both shared (2 ^ wordBits - 1 - above) k ∙ ap₂ (λ (a b : Bool). a && b) sh (has-lacked wordBits above k fa small ∙ fi) in
-      let three : has (bitAnd (bitAnd shared (2 ^ wordBits - 1 - above)) (2 ^ wordBits - 1 - within)) k ≡ ((bothIn s t && only s t) && only t s) =
+      let three : has (bitAnd (bitAnd shared (2 ^ wordBits - 1 - above)) (2 ^ wordBits - 1 - within)) k ≡ ((bothIn u v && only s t) && only t s) =
       has-both (bitAnd shared (2 ^ wordBits - 1 - above)) (2 ^ wordBits - 1 - within) k ∙ ap₂ (λ (a b : Bool). a && b) two (has-lacked wordBits within k fw small ∙ se) in
-      complement-filled s t same
-      ∙ told-case (bothIn s t) (only s t) (only t s) (agree s t)
+      complement-filled words s t same
+      ∙ told-case (bothIn u v) (only s t) (only t s) (agree s t)
       ∙ ap (λ (b : Bool). b && agree s t) (sym three)
 
 -- ---- all rows with these columns at once
 
 -- i columns of the row are passed
-abbrev pub PassedTo : List ℕ → List ℕ → ℕ → ℕ → ℕ → ℕ → Type 0
-PassedTo row columns i shared above within =
-    (rows : List (List ℕ)) → Seen rows (length row) columns → (k : ℕ) → k < length rows → Passed row (getD rows k []) k i shared above within
+abbrev pub PassedTo : List ℕ → List ℕ → List ℕ → ℕ → ℕ → ℕ → ℕ → Type 0
+PassedTo row columns counted i shared above within =
+    (words : List ℕ) (rows : List (List ℕ)) → length words ≡ length row → Seen words rows columns counted → (k : ℕ) → k < length rows
+    → Passed words row (getD rows k []) k i shared above within
 
 -- the loop over the columns: i are passed, and the two words that are inverted at the end fit a word
-pub record PassedColumns (row columns : List ℕ) (shared above within i : ℕ) : Type 0 where
+pub record PassedColumns (row columns counted : List ℕ) (shared above within i : ℕ) : Type 0 where
   pub in-row : i ≤ length row
   pub above-fits : above < 2 ^ wordBits
   pub within-fits : within < 2 ^ wordBits
-  pub passed : PassedTo row columns i shared above within
+  pub passed : PassedTo row columns counted i shared above within
 
-module _ (row columns : List ℕ) where
-  pub passed-start : PassedTo row columns 0 0 18446744073709551615 18446744073709551615
-  passed-start rows seen k h = passed-none row (getD rows k []) k (sym (seen .wide k h)) (omega (arith, seen .few))
+module _ (row columns counted : List ℕ) where
+  pub passed-start : PassedTo row columns counted 0 0 18446744073709551615 18446744073709551615
+  passed-start words rows wide seen k h =
+      passed-none words row (getD rows k []) k (sym (seen .wide k h ∙ wide)) (sym wide) (omega (arith, seen .few))
 
   module _ (i shared above within : ℕ) where
-    pub passed-turn : (filled empty : ℕ) → i < length row → filled < 2 ^ wordBits → filled ≡ getD columns i 0 → empty ≡ blankOf (getD row i 0)
-        → PassedTo row columns i shared above within
-        → PassedTo row columns (i + 1) (bitOr shared (bitAnd filled (2 ^ wordBits - 1 - empty))) (bitAnd above (bitOr filled empty))
+    pub passed-turn : (filled counts-filled empty : ℕ) → i < length row → filled < 2 ^ wordBits → filled ≡ getD columns i 0
+        → counts-filled ≡ getD counted i 0 → empty ≡ blankOf (getD row i 0)
+        → PassedTo row columns counted i shared above within
+        → PassedTo row columns counted (i + 1) (bitOr shared (bitAnd counts-filled (2 ^ wordBits - 1 - empty))) (bitAnd above (bitOr filled empty))
         (bitAnd within (2 ^ wordBits - 1 - bitAnd filled empty))
-    passed-turn filled empty more fits ef ee inv rows seen k h =
+    passed-turn filled counts-filled empty more fits ef ec ee inv words rows wide seen k h =
         let x = getD row i 0 in
         let small : k < wordBits = omega (arith, seen .few) in
-        let column : filled ≡ filledIn rows i = ef ∙ seen .filled .words i more in
+        let here : i < length words = omega arith in
+        let column : getD columns i 0 ≡ filledIn rows i = seen .filled .words i here in
         let fe : empty < 2 ^ wordBits = rw ee (blank-fits x) in
-        passed-more row (getD rows k []) k (sym (seen .wide k h)) small i shared above within (inv rows seen k h) filled empty more fits fe
-        (ap (λ (w : ℕ). has w k) column ∙ filled-has rows i k h)
+        let held : has (getD columns i 0) k ≡ isFilled (getD (getD rows k []) i 0) = ap (λ (w : ℕ). has w k) column ∙ filled-has rows i k h in
+        passed-more words row (getD rows k []) k (sym (seen .wide k h ∙ wide)) (sym wide) small i shared above within
+        (inv words rows wide seen k h) filled counts-filled empty more fits fe
+        (ap (λ (w : ℕ). has w k) ef ∙ held)
+        (ap (λ (w : ℕ). has w k) (ec ∙ seen .counting .each i here) ∙ has-counted (counts words i) (getD columns i 0) k
+        ∙ ap (λ (b : Bool). counts words i && b) held)
         (ap (λ (w : ℕ). has w k) ee ∙ has-blank x k small)
 
-    pub passed-end : length row ≤ i → above < 2 ^ wordBits → within < 2 ^ wordBits → PassedTo row columns i shared above within
-        → Crossing row columns (bitAnd (bitAnd shared (2 ^ wordBits - 1 - above)) (2 ^ wordBits - 1 - within))
-    passed-end all fa fw inv rows seen k h =
-        passed-told row (getD rows k []) k (sym (seen .wide k h)) (omega (arith, seen .few)) i shared above within all fa fw (inv rows seen k h)
+    pub passed-end : length row ≤ i → above < 2 ^ wordBits → within < 2 ^ wordBits → PassedTo row columns counted i shared above within
+        → Crossing row columns counted (bitAnd (bitAnd shared (2 ^ wordBits - 1 - above)) (2 ^ wordBits - 1 - within))
+    passed-end all fa fw inv words rows wide seen k h =
+        passed-told words row (getD rows k []) k (sym (seen .wide k h ∙ wide)) (sym wide) (omega (arith, seen .few)) i shared above within all fa fw
+        (inv words rows wide seen k h)
 
--- ---- the rows one after the other
+-- ---- the rows one after the other, with a cell for each column word
 
-pub rows-seen : (c n : ℕ) (w columns : List ℕ) → n ≤ maxUnionRows → n * c ≤ length w → ColumnsOf (rowsIn c n w) c columns → Seen (rowsIn c n w) c columns
-rows-seen c n w columns few fits o = record {
-  few = omega (arith, rows-length c n w);
-  wide = λ k h. let l : k < n = omega (arith, rows-length c n w) in ap length (rows-at c n k w l) ∙ row-length c n k w fits l;
-  filled = o;
-}
+pub rows-seen : (words : List ℕ) (n : ℕ) (w columns counted : List ℕ) → n ≤ maxUnionRows → n * length words ≤ length w
+    → ColumnsOf (rowsIn (length words) n w) (length words) columns → CountedColumns words columns counted
+    → Seen words (rowsIn (length words) n w) columns counted
+rows-seen words n w columns counted few fits o m =
+    let c = length words in
+    record {
+      few = omega (arith, rows-length c n w);
+      wide = λ k h. let l : k < n = omega (arith, rows-length c n w) in ap length (rows-at c n k w l) ∙ row-length c n k w fits l;
+      filled = o;
+      counting = m;
+    }
 
 -- the words of the first j rows hold the rows that cross them
-abbrev pub CrossingTo : List (List ℕ) → List ℕ → ℕ → Type 0
-CrossingTo rows neighbours j = (i : ℕ) → i < j → CrossingOf rows (getD rows i []) (getD neighbours i 0)
+abbrev pub CrossingTo : List ℕ → List (List ℕ) → List ℕ → ℕ → Type 0
+CrossingTo words rows neighbours j = (i : ℕ) → i < j → CrossingOf words rows (getD rows i []) (getD neighbours i 0)
 
 -- the loop over the rows: the row j begins at at, the list keeps its length, and the words of the rows before are written
-pub record CrossedRows (width n : ℕ) (cells found neighbours : List ℕ) (j at : ℕ) : Type 0 where
+pub record CrossedRows (words : List ℕ) (n : ℕ) (cells found neighbours : List ℕ) (j at : ℕ) : Type 0 where
   pub few : j ≤ n
-  pub here : at ≡ j * width
+  pub here : at ≡ j * length words
   pub size : length neighbours ≡ length found
-  pub crossed : CrossingTo (rowsIn width n cells) neighbours j
+  pub crossed : CrossingTo words (rowsIn (length words) n cells) neighbours j
 
--- n rows of c cells stand in w, and the row j, from at on, is the next
-pub crossing-turn : (c n j at : ℕ) (w columns neighbours : List ℕ) (set : ℕ) → Seen (rowsIn c n w) c columns → n * c ≤ length w → j < n → at ≡ j * c
-    → j < length neighbours → Crossing (take (at + c - at) (drop at w)) columns set → CrossingTo (rowsIn c n w) neighbours j
-    → CrossingTo (rowsIn c n w) (replace neighbours j set) (j + 1)
-crossing-turn c n j at w columns neighbours set seen fits more here room f inv =
-    let rows : List (List ℕ) = rowsIn c n w in
-    let long = part-length c n j w fits more at here in
-    let own : CrossingOf rows (getD rows j []) set =
-    subst (λ (r : List ℕ). CrossingOf rows r set) (part-is c n j w fits more at here ∙ sym (rows-at c n j w more))
-    (f rows (subst (λ (k : ℕ). Seen rows k columns) (sym long) seen)) in
-    below-more (λ (i : ℕ). CrossingOf rows (getD rows i []) (getD (replace neighbours j set) i 0)) j
-    (λ i h. subst (CrossingOf rows (getD rows i [])) (sym (getD-set-other neighbours j i set 0 (λ q. omega arith))) (inv i h))
-    (subst (CrossingOf rows (getD rows j [])) (sym (getD-set-same neighbours j set 0 room)) own)
+module _ (words : List ℕ) (n j at : ℕ) (w columns counted neighbours : List ℕ) (set : ℕ) where
+  abbrev c : ℕ
+  c = length words
+
+  abbrev rows : List (List ℕ)
+  rows = rowsIn c n w
+
+  -- n rows stand in w, and the row j, from at on, is the next
+  pub crossing-turn : Seen words rows columns counted → n * c ≤ length w → j < n → at ≡ j * c → j < length neighbours
+      → Crossing (take (at + c - at) (drop at w)) columns counted set → CrossingTo words rows neighbours j
+      → CrossingTo words rows (replace neighbours j set) (j + 1)
+  crossing-turn seen fits more here room f inv =
+      let own : CrossingOf words rows (getD rows j []) set =
+      subst (λ (r : List ℕ). CrossingOf words rows r set) (part-is c n j w fits more at here ∙ sym (rows-at c n j w more))
+      (f words rows (sym (part-length c n j w fits more at here)) seen) in
+      below-more (λ (i : ℕ). CrossingOf words rows (getD rows i []) (getD (replace neighbours j set) i 0)) j
+      (λ i h. subst (CrossingOf words rows (getD rows i [])) (sym (getD-set-other neighbours j i set 0 (λ q. omega arith))) (inv i h))
+      (subst (CrossingOf words rows (getD rows j [])) (sym (getD-set-same neighbours j set 0 room)) own)

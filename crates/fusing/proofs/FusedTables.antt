@@ -24,20 +24,20 @@ use Rattle.fusing.proofs.Neighbours.{graph-sets}
 
 -- ---- the sets found in the graph of T
 
-pub graph-for : (c n : ℕ) (cells neighbours : List ℕ) → GraphOf (rowsIn c n cells) neighbours → Graph neighbours n
-graph-for c n cells neighbours g = subst (Graph neighbours) (rows-length c n cells) (g .graph)
+pub graph-for : (words : List ℕ) (c n : ℕ) (cells neighbours : List ℕ) → GraphOf words (rowsIn c n cells) neighbours → Graph neighbours n
+graph-for words c n cells neighbours g = subst (Graph neighbours) (rows-length c n cells) (g .graph)
 
-module _ (c n r : ℕ) (cells neighbours list : List ℕ) (g : GraphOf (rowsIn c n cells) neighbours) (found : AllSets neighbours n list r) where
+module _ (words : List ℕ) (c n r : ℕ) (cells neighbours list : List ℕ) (g : GraphOf words (rowsIn c n cells) neighbours) (found : AllSets neighbours n list r) where
   abbrev T : List (List ℕ)
   T = rowsIn c n cells
 
-  sets-are : maximalSets (adjacent neighbours) n ≡ unionSets T
-  sets-are = ap (maximalSets (adjacent neighbours)) (sym (rows-length c n cells)) ∙ graph-sets T neighbours g
+  sets-are : maximalSets (adjacent neighbours) n ≡ unionSets words T
+  sets-are = ap (maximalSets (adjacent neighbours)) (sym (rows-length c n cells)) ∙ graph-sets words T neighbours g
 
-  sets-counted : r ≡ min (suc maxSets) (length (unionSets T))
+  sets-counted : r ≡ min (suc maxSets) (length (unionSets words T))
   sets-counted = found .counts ∙ ap (λ (l : List (List Bool)). min (suc maxSets) (length l)) sets-are
 
-  pub sets-of : SetsOf T list r
+  pub sets-of : SetsOf words T list r
   sets-of = record {
     many = λ h. omega (arith, sets-counted);
     few = λ h. omega (arith, sets-counted);
@@ -46,27 +46,27 @@ module _ (c n r : ℕ) (cells neighbours list : List ℕ) (g : GraphOf (rowsIn c
 
 -- ---- the fused table: m indices name the distinct joined rows in ascending order
 
-module _ (T : List (List ℕ)) (c count m : ℕ) (cells order : List ℕ) (known : rowsIn c count cells ≡ joinedRows T)
+module _ (words : List ℕ) (T : List (List ℕ)) (c count m : ℕ) (cells order : List ℕ) (known : rowsIn c count cells ≡ joinedRows words T)
     (o : Ordered c count cells (take m order)) where
   abbrev named : List (List ℕ)
   named = rowsAt c cells (take m order)
 
-  ordered-fused : named ≡ fusedRows T
+  ordered-fused : named ≡ fusedRows words T
   unfolding fusedRows
   ordered-fused = o .rows ∙ ap (ascending compareRow) known
 
-  positions-fused : positionsIn named (rowsIn c count cells) ≡ map (fusedPosition T) (unionSets T)
+  positions-fused : positionsIn named (rowsIn c count cells) ≡ map (fusedPosition words T) (unionSets words T)
   unfolding positionsIn
-  positions-fused = ap₂ (λ (t s : List (List ℕ)). map (λ r. findIndex (sameRow r) t) s) ordered-fused known ∙ twice (unionSets T)
+  positions-fused = ap₂ (λ (t s : List (List ℕ)). map (λ r. findIndex (sameRow r) t) s) ordered-fused known ∙ twice (unionSets words T)
     where
       twice : (ss : List (List Bool))
-          → map (λ r. findIndex (sameRow r) (fusedRows T)) (map (joined T) ss) ≡ map (fusedPosition T) ss
+          → map (λ r. findIndex (sameRow r) (fusedRows words T)) (map (joined T) ss) ≡ map (fusedPosition words T) ss
       twice [] = refl
-      twice (s ∷ ss) = ap (λ (t : List ℕ). fusedPosition T s ∷ t) (twice ss)
+      twice (s ∷ ss) = ap (λ (t : List ℕ). fusedPosition words T s ∷ t) (twice ss)
 
   -- the positions written are those of the joined rows in the fused table
   positions-known : (positions rest : List ℕ) → positions ≡ positionsIn named (rowsIn c count cells) ++ rest
-      → take count positions ≡ map (fusedPosition T) (unionSets T)
+      → take count positions ≡ map (fusedPosition words T) (unionSets words T)
   unfolding positionsIn
   positions-known positions rest e =
       ap (take count) e
@@ -75,7 +75,7 @@ module _ (T : List (List ℕ)) (c count m : ℕ) (cells order : List ℕ) (known
       ∙ positions-fused
 
   pub fused-of : (positions rest : List ℕ) → count * c ≤ length cells → m ≤ count → m ≤ length order
-      → positions ≡ positionsIn named (rowsIn c count cells) ++ rest → FusedOf T c count cells order positions m
+      → positions ≡ positionsIn named (rowsIn c count cells) ++ rest → FusedOf words T c count cells order positions m
   fused-of positions rest fits fewer within e = record {
     fewer = fewer;
     within = within;

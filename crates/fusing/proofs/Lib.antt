@@ -4,6 +4,7 @@ pub mod Words
 pub mod Rests
 pub mod FilledRows
 pub mod Grouping
+pub mod Counting
 pub mod Apart
 pub mod Crossing
 pub mod Agreeing

@@ -75,7 +75,7 @@ module _ (width : ℕ) (cells : List ℕ) (set : ℕ) where
 
 -- ---- the joined row of a complementing set
 
-module _ (rows : List (List ℕ)) (s : List Bool) (comp : Complementing (complementAt rows) (length rows) s) (column : ℕ) where
+module _ (words : List ℕ) (rows : List (List ℕ)) (s : List Bool) (comp : Complementing (complementAt words rows) (length rows) s) (column : ℕ) where
   abbrev cell : ℕ → ℕ
   cell k = getD (getD rows k []) column 0
 
@@ -88,7 +88,7 @@ module _ (rows : List (List ℕ)) (s : List Bool) (comp : Complementing (complem
       (λ e.
       let m = joined-some rows s column (eqb-false (getD (joined rows s) column 0) 0 e) in
       m .2 ∙ agreed (getD (m .0) column 0) (cell k) (λ z. eqb-false (getD (joined rows s) column 0) 0 e (m .2 ∙ z)) f
-      (agree-at (m .0) (getD rows k []) (members-agree rows s comp (m .0) (getD rows k []) (m .1) here) column))
+      (agree-at (m .0) (getD rows k []) (members-agree words rows s comp (m .0) (getD rows k []) (m .1) here) column))
     where
       agreed : (x y : ℕ) → Filled x → Filled y → CellAgrees x y → x ≡ y
       agreed x y f g a = ⊎-elim (λ e. e) (λ b. ⊎-elim (λ e. absurd (f e)) (λ e. absurd (g e)) b) a
@@ -98,16 +98,16 @@ module _ (rows : List (List ℕ)) (s : List Bool) (comp : Complementing (complem
       joined-empty rows s column .1
       (λ r h. let m = members-are rows s r .0 h in ap (λ (t : List ℕ). getD t column 0) (m .3) ∙ f (m .0) (m .2))
 
--- ---- the rows stand in the words w, and each column's word holds the rows that are filled there
+-- ---- the rows stand in w, and each column's word holds the rows that are filled there
 
-module _ (c n : ℕ) (w columns : List ℕ) (fits : n * c ≤ length w) (o : ColumnsOf (rowsIn c n w) c columns) (s : List Bool)
-    (listed : Member s (unionSets (rowsIn c n w))) where
+module _ (words : List ℕ) (c n : ℕ) (w columns : List ℕ) (fits : n * c ≤ length w) (o : ColumnsOf (rowsIn c n w) c columns) (s : List Bool)
+    (listed : Member s (unionSets words (rowsIn c n w))) where
   abbrev rows : List (List ℕ)
   rows = rowsIn c n w
 
-  comp : Complementing (complementAt rows) (length rows) s
+  comp : Complementing (complementAt words rows) (length rows) s
   unfolding unionSets
-  comp = listed-is (complementAt rows) (length rows) s .0 listed .complementing
+  comp = listed-is (complementAt words rows) (length rows) s .0 listed .complementing
 
   pub joined-wide : length (joined rows s) ≡ c
   joined-wide = joined-length rows c (rows-wide c n w fits) s (comp .size) (comp .some .0) (comp .some .1)
@@ -123,7 +123,7 @@ module _ (c n : ℕ) (w columns : List ℕ) (fits : n * c ≤ length w) (o : Col
 
     none-held : held ≡ 0 → getD (joined rows s) i 0 ≡ 0
     none-held e =
-        no-member-cell rows s comp i
+        no-member-cell words rows s comp i
         (λ k g.
         let l : k < length rows = omega (arith, holds-within s k g, comp .size) in
         empty-cell (getD (getD rows k []) i 0)
@@ -137,7 +137,7 @@ module _ (c n : ℕ) (w columns : List ℕ) (fits : n * c ≤ length w) (o : Col
         let m : Holds s k = sym (has-bits s k) ∙ and-l (has (bits s) k) (has (filledIn rows i) k) (sym (has-both (bits s) (filledIn rows i) k) ∙ there) in
         let l : k < length rows = omega (arith, holds-within s k m, comp .size) in
         let f : isFilled (getD (getD rows k []) i 0) ≡ true = and-r (has (bits s) k) (isFilled (getD (getD rows k []) i 0)) (sym (held-has k l) ∙ there) in
-        member-cell rows s comp i k m (filled-cell (getD (getD rows k []) i 0) f)
+        member-cell words rows s comp i k m (filled-cell (getD (getD rows k []) i 0) f)
         ∙ ap (λ (r : List ℕ). getD r i 0) (rows-at c n k w (omega (arith, rows-length c n w)))
         ∙ cell-at c k i w h
 

@@ -1,5 +1,5 @@
 -- What the steps of complement union ask of T and have found of it: its maximal sets, and the fused table with the positions of the joined
--- rows.
+-- rows. `words` are the union's column words, which say by their marks what complements.
 use mathlib.Core.Path.{_≡_}
 use mathlib.Core.List.{List, map}
 use Prim.Native.Nat.{ℕ, _*_, _≤_, _<_}
@@ -18,19 +18,19 @@ pub record RowsOf (cells : List ℕ) (n width : ℕ) (columns : List ℕ) : Type
   pub filled : ColumnsOf (rowsIn width n cells) width columns
 
 -- r counts the sets where there are no more than may be listed, and the list begins with them
-pub record SetsOf (rows : List (List ℕ)) (list : List ℕ) (r : ℕ) : Type 0 where
-  pub many : maxSets < r → maxSets < length (unionSets rows)
-  pub few : r ≤ maxSets → length (unionSets rows) ≡ r
-  pub listed : r ≤ maxSets → take r list ≡ map bits (unionSets rows)
+pub record SetsOf (words : List ℕ) (rows : List (List ℕ)) (list : List ℕ) (r : ℕ) : Type 0 where
+  pub many : maxSets < r → maxSets < length (unionSets words rows)
+  pub few : r ≤ maxSets → length (unionSets words rows) ≡ r
+  pub listed : r ≤ maxSets → take r list ≡ map bits (unionSets words rows)
 
 -- the list holds the sets, and nothing else
-pub record AllSetsOf (rows : List (List ℕ)) (list : List ℕ) : Type 0 where
+pub record AllSetsOf (words : List ℕ) (rows : List (List ℕ)) (list : List ℕ) : Type 0 where
   pub few : length list ≤ maxSets
-  pub listed : list ≡ map bits (unionSets rows)
+  pub listed : list ≡ map bits (unionSets words rows)
 
 -- the joined row of each set, in set order
-abbrev pub joinedRows : List (List ℕ) → List (List ℕ)
-joinedRows rows = map (joined rows) (unionSets rows)
+abbrev pub joinedRows : List ℕ → List (List ℕ) → List (List ℕ)
+joinedRows words rows = map (joined rows) (unionSets words rows)
 
 -- room for the joined rows of so many sets, their indices and their positions
 pub record RoomFor (count width : ℕ) (joined order positions : List ℕ) : Type 0 where
@@ -39,9 +39,9 @@ pub record RoomFor (count width : ℕ) (joined order positions : List ℕ) : Typ
   pub positions-too : count ≤ length positions
 
 -- the first m indices name the fused rows among the joined ones, and each of count sets has its position
-pub record FusedOf (rows : List (List ℕ)) (width count : ℕ) (joined order positions : List ℕ) (m : ℕ) : Type 0 where
+pub record FusedOf (words : List ℕ) (rows : List (List ℕ)) (width count : ℕ) (joined order positions : List ℕ) (m : ℕ) : Type 0 where
   pub fewer : m ≤ count
   pub within : m ≤ length order
   pub fit : Fit width (length joined) (take m order)
-  pub fused : rowsAt width joined (take m order) ≡ fusedRows rows
-  pub placed : take count positions ≡ map (fusedPosition rows) (unionSets rows)
+  pub fused : rowsAt width joined (take m order) ≡ fusedRows words rows
+  pub placed : take count positions ≡ map (fusedPosition words rows) (unionSets words rows)

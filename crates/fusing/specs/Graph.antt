@@ -1,40 +1,57 @@
 -- The graph of T: a word for each row, whose bit k says that row k complements it. It is found in two steps: rows that cross, and of these
--- the ones that agree.
+-- the ones that agree. `words` are the union's column words: their marks say which columns condition (3) counts.
 use mathlib.Core.Path.{_≡_}
-use mathlib.Core.Bool.{true, false, not, _&&_, _||_}
+use mathlib.Core.Bool.{Bool, true, false, cond, not, _&&_, _||_}
 use mathlib.Core.List.{List, []}
 use Prim.Native.Nat.{ℕ, _≤_, _<_}
 use lib.ListN.{length, getD}
 use Rattle.definitions.specs.Limits.{maxUnionRows}
+use Rattle.definitions.specs.Lists.{any}
+use Rattle.definitions.specs.Word.{markOf}
 use Rattle.definitions.specs.ComplementUnion.{agree, complement, complementAt}
 use Rattle.bitsets.specs.Bits.{wordBits, has}
 use Rattle.cliques.specs.Graph.{adjacent, Graph}
 use Rattle.patterns.specs.Columns.{ColumnsOf}
 
 -- the words begin with the graph of these rows
-pub record GraphOf (rows : List (List ℕ)) (neighbours : List ℕ) : Type 0 where
+pub record GraphOf (words : List ℕ) (rows : List (List ℕ)) (neighbours : List ℕ) : Type 0 where
   pub graph : Graph neighbours (length rows)
-  pub adjacent-as : (j k : ℕ) → j < length rows → k < length rows → adjacent neighbours j k ≡ complementAt rows j k
+  pub adjacent-as : (j k : ℕ) → j < length rows → k < length rows → adjacent neighbours j k ≡ complementAt words rows j k
+
+-- ---- the columns that condition (3) counts
+
+-- the column is marked, or none is
+abbrev pub countsColumn : List ℕ → ℕ → Bool
+countsColumn words c = markOf (getD words c 0) || not (any markOf words)
+
+-- for each column that counts its word of `columns`, and for another a word that holds no row
+pub record CountedColumns (words columns counted : List ℕ) : Type 0 where
+  pub size : length words ≤ length counted
+  pub each : (c : ℕ) → c < length words → getD counted c 0 ≡ cond (countsColumn words c) (getD columns c 0) 0
 
 -- ---- the rows that cross a row
 
--- rows of width cells, and the columns' words that hold those that are filled there
-pub record Seen (rows : List (List ℕ)) (width : ℕ) (columns : List ℕ) : Type 0 where
+-- rows with a cell for each column word, and the columns' words that hold those that are filled there: of every column, and of
+-- those that count
+pub record Seen (words : List ℕ) (rows : List (List ℕ)) (columns counted : List ℕ) : Type 0 where
   pub few : length rows ≤ maxUnionRows
-  pub wide : (k : ℕ) → k < length rows → length (getD rows k []) ≡ width
-  pub filled : ColumnsOf rows width columns
+  pub wide : (k : ℕ) → k < length rows → length (getD rows k []) ≡ length words
+  pub filled : ColumnsOf rows (length words) columns
+  pub counting : CountedColumns words columns counted
 
 -- those of the set that agree with a row are the rows that complement it
-abbrev pub CrossingOf : List (List ℕ) → List ℕ → ℕ → Type 0
-CrossingOf rows row set = (k : ℕ) → k < length rows → complement row (getD rows k []) ≡ (has set k && agree row (getD rows k []))
+abbrev pub CrossingOf : List ℕ → List (List ℕ) → List ℕ → ℕ → Type 0
+CrossingOf words rows row set =
+    (k : ℕ) → k < length rows → complement words row (getD rows k []) ≡ (has set k && agree row (getD rows k []))
 
 -- the same of all rows with these columns
-abbrev pub Crossing : List ℕ → List ℕ → ℕ → Type 0
-Crossing row columns set = (rows : List (List ℕ)) → Seen rows (length row) columns → CrossingOf rows row set
+abbrev pub Crossing : List ℕ → List ℕ → List ℕ → ℕ → Type 0
+Crossing row columns counted set =
+    (words : List ℕ) (rows : List (List ℕ)) → length words ≡ length row → Seen words rows columns counted → CrossingOf words rows row set
 
 -- the word of each row holds the rows that cross it
-pub record CrossingRows (rows : List (List ℕ)) (neighbours : List ℕ) : Type 0 where
-  pub each : (j : ℕ) → j < length rows → CrossingOf rows (getD rows j []) (getD neighbours j 0)
+pub record CrossingRows (words : List ℕ) (rows : List (List ℕ)) (neighbours : List ℕ) : Type 0 where
+  pub each : (j : ℕ) → j < length rows → CrossingOf words rows (getD rows j []) (getD neighbours j 0)
 
 -- ---- the rows that agree with a row
 

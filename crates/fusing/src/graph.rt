@@ -1,22 +1,61 @@
-// The graph of T: which rows complement each other. They agree in every column, and of their filled columns some are common and some are
-// each row's own. Both are told of all rows at once, by a bit a row, column by column.
+// The graph of T: which rows complement each other. They agree in every column, and of their filled columns some are each row's own and
+// some are common: of these one must count, that is, be marked where any column of the union is. All this is told of all rows at once, by
+// a bit a row, column by column.
+ghost use mathlib.Core.Path.{_≡_};
 ghost use Prim.Native.Nat.{_≤_};
 ghost use lib.ListN.{length};
+ghost use Rattle.definitions.specs.Limits.{maxColumns};
+ghost use Rattle.definitions.specs.Lists.{any};
+ghost use Rattle.definitions.specs.Word.{markOf};
 ghost use Rattle.definitions.specs.Image.{rowsIn};
 ghost use Rattle.bitsets.specs.Bits.{Inside};
 ghost use Rattle.fusing.specs.Fused.{RowsOf};
 ghost use Rattle.fusing.specs.Groups.{Led};
-ghost use Rattle.fusing.specs.Graph.{Crossing, CrossingRows, NarrowedBy, Narrowed, GraphOf};
+ghost use Rattle.fusing.specs.Graph.{CountedColumns, Crossing, CrossingRows, NarrowedBy, Narrowed, GraphOf};
 use crate::groups::group_rows;
 use bitsets::ALL_ROWS;
+use definitions::MAX_COLUMNS;
 use definitions::MAX_UNION_ROWS;
 use patterns::blank;
 
-// The rows whose filled columns cross those of a row: filled somewhere where the row is (`shared`), but not everywhere where it is
-// (`above`), nor nowhere else (`within`).
-fn crossing(row: &[u32], columns: &[u64]) -> u64
-    requires { ⌜ length (now row) ≤ length (now columns) ⌝ }
-    ensures { λ r. ⌜ Crossing (now (row .entry)) (now (columns .entry)) r ⌝ }
+// Whether a column of the union is marked.
+fn any_marked(column_words: &[u32]) -> bool
+    ensures { λ r. ⌜ r ≡ any markOf (now («column_words» .entry)) ⌝ }
+{
+    let mut marked = false;
+    let mut c = 0;
+    while c < column_words.len() {
+        marked = marked | words::is_marked(column_words[c]);
+        c += 1;
+    }
+    marked
+}
+
+// Writes for each column the rows that are filled there, or none where the column does not count. It is done once, so that a mark costs
+// nothing a pair of rows.
+fn count_columns(column_words: &[u32], columns: &[u64], counted: &mut [u64])
+    requires { ⌜ (length (now «column_words») ≤ length (now columns))
+        × (length (now «column_words») ≤ length (now counted)) ⌝ }
+    ensures { λ r. ⌜ CountedColumns (now («column_words» .entry)) (now (columns .entry)) (now (counted .exit)) ⌝ }
+{
+    let marked = any_marked(column_words);
+    let mut c = 0;
+    while c < column_words.len() {
+        if words::is_marked(column_words[c]) | !marked {
+            counted[c] = columns[c];
+            c += 1;
+        } else {
+            counted[c] = 0;
+            c += 1;
+        }
+    }
+}
+
+// The rows whose filled columns cross those of a row: filled somewhere where the row is and the column counts (`shared`), but not
+// everywhere where it is (`above`), nor nowhere else (`within`).
+fn crossing(row: &[u32], columns: &[u64], counted: &[u64]) -> u64
+    requires { ⌜ (length (now row) ≤ length (now columns)) × (length (now row) ≤ length (now counted)) ⌝ }
+    ensures { λ r. ⌜ Crossing (now (row .entry)) (now (columns .entry)) (now (counted .entry)) r ⌝ }
 {
     let mut shared = 0;
     let mut above = ALL_ROWS;
@@ -25,7 +64,7 @@ fn crossing(row: &[u32], columns: &[u64]) -> u64
     while c < row.len() {
         let filled = columns[c];
         let empty = blank(row[c]);
-        shared = shared | (filled & !empty);
+        shared = shared | (counted[c] & !empty);
         above = above & (filled | empty);
         within = within & !(filled & empty);
         c += 1;
@@ -34,15 +73,24 @@ fn crossing(row: &[u32], columns: &[u64]) -> u64
 }
 
 // Writes for each of the first n rows those that cross it.
-fn cross_rows(cells: &[u32], n: usize, width: usize, columns: &[u64], neighbours: &mut [u64])
-    requires { ⌜ RowsOf (now cells) n width (now columns) × (n ≤ length (now neighbours)) ⌝ }
-    ensures { λ r. ⌜ CrossingRows (rowsIn width n (now (cells .entry))) (now (neighbours .exit)) ⌝ }
+fn cross_rows(
+    column_words: &[u32],
+    cells: &[u32],
+    n: usize,
+    columns: &[u64],
+    counted: &[u64],
+    neighbours: &mut [u64],
+)
+    requires { ⌜ RowsOf (now cells) n (length (now «column_words»)) (now columns)
+        × CountedColumns (now «column_words») (now columns) (now counted) × (n ≤ length (now neighbours)) ⌝ }
+    ensures { λ r. ⌜ CrossingRows (now («column_words» .entry))
+        (rowsIn (length (now («column_words» .entry))) n (now (cells .entry))) (now (neighbours .exit)) ⌝ }
 {
     let mut j = 0;
     let mut at = 0;
     while j < n {
-        let next = at + width;
-        neighbours[j] = crossing(&cells[at..next], columns);
+        let next = at + column_words.len();
+        neighbours[j] = crossing(&cells[at..next], columns, counted);
         at = next;
         j += 1;
     }
@@ -82,15 +130,19 @@ fn narrow_columns(cells: &[u32], n: usize, width: usize, columns: &[u64], neighb
 
 // Writes the graph of the first n rows, of which each column's word holds those that are filled there.
 pub(crate) fn fill_neighbours(
+    column_words: &[u32],
     cells: &[u32],
     n: usize,
-    width: usize,
     columns: &[u64],
     neighbours: &mut [u64],
 )
-    requires { ⌜ RowsOf (now cells) n width (now columns) × (n ≤ length (now neighbours)) ⌝ }
-    ensures { λ r. ⌜ GraphOf (rowsIn width n (now (cells .entry))) (now (neighbours .exit)) ⌝ }
+    requires { ⌜ RowsOf (now cells) n (length (now «column_words»)) (now columns)
+        × (length (now «column_words») ≤ maxColumns) × (n ≤ length (now neighbours)) ⌝ }
+    ensures { λ r. ⌜ GraphOf (now («column_words» .entry))
+        (rowsIn (length (now («column_words» .entry))) n (now (cells .entry))) (now (neighbours .exit)) ⌝ }
 {
-    cross_rows(cells, n, width, columns, neighbours);
-    narrow_columns(cells, n, width, columns, neighbours);
+    let mut counted = [0u64; MAX_COLUMNS];
+    count_columns(column_words, columns, &mut counted);
+    cross_rows(column_words, cells, n, columns, &counted, neighbours);
+    narrow_columns(cells, n, column_words.len(), columns, neighbours);
 }

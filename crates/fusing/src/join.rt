@@ -37,23 +37,25 @@ fn join_set(cells: &[u32], columns: &[u64], width: usize, set: u64, out: &mut [u
 
 // Writes the joined rows of the maximal sets of the first n rows.
 pub(crate) fn join_sets(
+    column_words: &[u32],
     cells: &[u32],
     n: usize,
-    width: usize,
     columns: &[u64],
     sets: &[u64],
     out: &mut [u32],
 )
-    requires { ⌜ RowsOf (now cells) n width (now columns) × AllSetsOf (rowsIn width n (now cells)) (now sets)
-        × (length (now sets) * width ≤ length (now out)) ⌝ }
-    ensures { λ r. ⌜ rowsIn width (length (now (sets .entry))) (now (out .exit))
-        ≡ joinedRows (rowsIn width n (now (cells .entry))) ⌝ }
+    requires { ⌜ RowsOf (now cells) n (length (now «column_words»)) (now columns)
+        × AllSetsOf (now «column_words») (rowsIn (length (now «column_words»)) n (now cells)) (now sets)
+        × (length (now sets) * length (now «column_words») ≤ length (now out)) ⌝ }
+    ensures { λ r. ⌜ rowsIn (length (now («column_words» .entry))) (length (now (sets .entry))) (now (out .exit))
+        ≡ joinedRows (now («column_words» .entry))
+        (rowsIn (length (now («column_words» .entry))) n (now (cells .entry))) ⌝ }
 {
     let mut k = 0;
     let mut at = 0;
     while k < sets.len() {
-        join_set(cells, columns, width, sets[k], out, at);
-        at += width;
+        join_set(cells, columns, column_words.len(), sets[k], out, at);
+        at += column_words.len();
         k += 1;
     }
 }

@@ -1,14 +1,14 @@
 -- The counts of a done answer fit words of 32 bits: by the limits on columns, rows and sets. Assumes nothing.
 use mathlib.Core.Path.{_≡_, sym, subst}
-use mathlib.Core.List.{List, [], _∷_, map, flatten}
+use mathlib.Core.List.{List, [], _∷_, flatten}
 use Prim.Native.Nat.{ℕ, _+_, _-_, _*_, _^_, _≤_, _<_}
 use native.Mathlib.Nat.{mul-le-mul}
 use native.Mathlib.Omega.{arith}
 use lib.ListN.{length, length-append}
 use Rattle.definitions.specs.Limits.{maxColumns, maxUnionRows, maxSets}
-use Rattle.definitions.specs.Word.{columnWord, isFilled}
+use Rattle.definitions.specs.Word.{isFilled}
 use Rattle.definitions.specs.Image.{imageOf}
-use Rattle.definitions.specs.OuterUnion.{unionIds, unionRows}
+use Rattle.definitions.specs.OuterUnion.{unionColumns, unionRows}
 use Rattle.definitions.specs.MinimumUnion.{filled, minimumRows}
 use Rattle.definitions.specs.ComplementUnion.{fusedRows}
 use Rattle.definitions.specs.Answer.{done}
@@ -21,6 +21,7 @@ use Rattle.definitions.proofs.Outcomes.{outer-done, minimum-done, complement-do
 use Rattle.definitions.proofs.ReadOutcome.{read-done}
 use Rattle.definitions.proofs.WrittenAgain.{accepted-form}
 use Rattle.definitions.proofs.ReadBound.{read-words-bound}
+use Rattle.definitions.proofs.UnionColumns.{columns-few}
 use Rattle.definitions.proofs.Unions.{outer-length, minimum-length, fused-length}
 
 -- each number of the list is a word of 32 bits
@@ -36,11 +37,11 @@ filled-few (x ∷ s) =
     bool-cases (isFilled x) (λ e. rw e (omega arith)) (λ e. rw e (omega arith))
 
 -- no more filled cells than words
-image-filled : (ids : List ℕ) (rows : List (List ℕ)) → filled (flatten rows) ≤ length (imageOf ids rows)
+image-filled : (columns : List ℕ) (rows : List (List ℕ)) → filled (flatten rows) ≤ length (imageOf columns rows)
 unfolding imageOf
-image-filled ids rows =
+image-filled columns rows =
     let i = filled-few (flatten rows) in
-    let w = length-append (map columnWord ids) (flatten rows) in
+    let w = length-append columns (flatten rows) in
     omega arith
 
 -- an image of at most 16 columns and 1,024 rows
@@ -55,8 +56,8 @@ module _ (a b : List ℕ) where
   outer-fits room values e =
       let d = outer-done a b room values .0 e in
       let n = accepted-rows a b (d .accepted) in
-      let w = few-words (length (unionIds a b)) (length (unionRows a b)) _ (d .accepted .columns) (omega arith) (outer-length a b) in
-      let f = image-filled (unionIds a b) (unionRows a b) in
+      let w = few-words (length (unionColumns a b)) (length (unionRows a b)) _ (columns-few a b (d .accepted)) (omega arith) (outer-length a b) in
+      let f = image-filled (unionColumns a b) (unionRows a b) in
       subst FitWords (sym (d .carries)) (omega arith, (w, (omega arith, tt)))
 
   pub minimum-fits : (room : ℕ) (values : List ℕ) → minimumOutcome a b room ≡ done values → FitWords values
@@ -65,8 +66,8 @@ module _ (a b : List ℕ) where
       let d = minimum-done a b room values .0 e in
       let n = accepted-rows a b (d .accepted) in
       let m = minimum-count (unionRows a b) in
-      let w = few-words (length (unionIds a b)) (length (minimumRows (unionRows a b))) _ (d .accepted .columns) (omega arith) (minimum-length a b) in
-      let f = image-filled (unionIds a b) (minimumRows (unionRows a b)) in
+      let w = few-words (length (unionColumns a b)) (length (minimumRows (unionRows a b))) _ (columns-few a b (d .accepted)) (omega arith) (minimum-length a b) in
+      let f = image-filled (unionColumns a b) (minimumRows (unionRows a b)) in
       let p = pairs-bound (unionRows a b) in
       let o : length (unionRows a b) - 1 ≤ maxUnionRows = omega arith in
       let q = mul-le-mul n o in
@@ -77,10 +78,10 @@ module _ (a b : List ℕ) where
   complement-fits room setRoom values e =
       let d = complement-done a b room setRoom values .0 e in
       let s = d .few-sets in
-      let n = fused-count (unionRows a b) in
-      let w = few-words (length (unionIds a b)) (length (fusedRows (unionRows a b))) _ (d .accepted .columns) (omega arith) (fused-length a b) in
-      let f = image-filled (unionIds a b) (fusedRows (unionRows a b)) in
-      let l = set-list-length (unionRows a b) in
+      let n = fused-count (unionColumns a b) (unionRows a b) in
+      let w = few-words (length (unionColumns a b)) (length (fusedRows (unionColumns a b) (unionRows a b))) _ (columns-few a b (d .accepted)) (omega arith) (fused-length a b) in
+      let f = image-filled (unionColumns a b) (fusedRows (unionColumns a b) (unionRows a b)) in
+      let l = set-list-length (unionColumns a b) (unionRows a b) in
       subst FitWords (sym (d .carries)) (omega arith, (w, (omega arith, (omega arith, (omega arith, tt)))))
 
 pub read-fits : (list : List ℕ) (rows room : ℕ) (values : List ℕ) → readOutcome list rows room ≡ done values → FitWords values

@@ -8,7 +8,7 @@ use native.Mathlib.Omega.{arith}
 use lib.ListN.{length, getD, take, drop, length-map, length-append}
 use lib.Seq.{paste, length-paste, length-take-le}
 use Rattle.definitions.specs.Limits.{maxColumns, maxSets}
-use Rattle.definitions.specs.Word.{headerWord, columnWord}
+use Rattle.definitions.specs.Word.{headerWord}
 use Rattle.definitions.specs.Image.{imageOf, rowsIn}
 use Rattle.definitions.specs.MinimumUnion.{filled}
 use Rattle.definitions.specs.Answer.{done}
@@ -19,18 +19,18 @@ use Rattle.rows.proofs.Writing.{row-words-length, rows-stand}
 use Rattle.images.specs.Writing.{Writable, WrittenImage, PutImage}
 use Rattle.images.proofs.Writing.{image-written}
 
-module _ {ids : List ℕ} {n : ℕ} {cells order : List ℕ} {m : ℕ} (k : Writable ids n cells order m) where
+module _ {columns : List ℕ} {n : ℕ} {cells order : List ℕ} {m : ℕ} (k : Writable columns n cells order m) where
   abbrev rows : List (List ℕ)
   rows = rowsAt n cells (take m order)
 
   abbrev image : List ℕ
-  image = imageOf (take n ids) rows
+  image = imageOf (take n columns) rows
 
   abbrev head : List ℕ
-  head = headerWord m n ∷ map columnWord (take n ids)
+  head = headerWord m n ∷ take n columns
 
   head-size : length head ≡ 1 + n
-  head-size = let l = length-map (take n ids) columnWord ∙ length-take-le n ids (k .short) in omega arith
+  head-size = let l = length-take-le n columns (k .short) in omega arith
 
   count : length rows ≡ m
   count = length-map (take m order) (rowAt n cells) ∙ length-take-le m order (k .within)
@@ -41,7 +41,7 @@ module _ {ids : List ℕ} {n : ℕ} {cells order : List ℕ} {m : ℕ} (k : Writ
   pub image-words : 1 + n + m * n ≡ length image
   unfolding imageOf
   image-words =
-      let a = length-append (map columnWord (take n ids)) (flatten rows) in
+      let a = length-append (take n columns) (flatten rows) in
       omega (arith, words, head-size)
 
   pub image-cells : m * n ≤ maxSets * maxColumns
@@ -51,31 +51,31 @@ module _ {ids : List ℕ} {n : ℕ} {cells order : List ℕ} {m : ℕ} (k : Writ
   pub image-rows-written : (d x y : List ℕ) → 1 + n + m * n ≤ length d → x ≡ paste d 0 head (1 + n)
       → y ≡ paste x (1 + n) (flatten rows) (m * n)
       → (f : ℕ) → f ≡ filled (flatten (rowsIn n m (take (length y - (1 + n)) (drop (1 + n) y))))
-      → WrittenImage ids n cells order m d y f
+      → WrittenImage columns n cells order m d y f
   image-rows-written d x y room ex ey f e =
       let long : length x ≡ length d = ap length ex ∙ length-paste d 0 head (1 + n) (omega arith) (omega (arith, head-size)) in
       record {
-        words = image-written d x y (take n ids) rows n (m * n) (length-take-le n ids (k .short)) words room
-            (ex ∙ ap (λ (j : ℕ). paste d 0 (headerWord j n ∷ map columnWord (take n ids)) (1 + n)) (sym count)) ey
+        words = image-written d x y (take n columns) rows n (m * n) (length-take-le n columns (k .short)) words room
+            (ex ∙ ap (λ (j : ℕ). paste d 0 (headerWord j n ∷ take n columns) (1 + n)) (sym count)) ey
             ∙ ap (λ (j : ℕ). image ++ drop j d) (sym image-words);
         count = e ∙ ap (λ (l : List ℕ). filled (flatten (rowsIn n m l))) (part-tail y (1 + n) ∙ ap (drop (1 + n)) ey)
             ∙ ap (λ (l : List (List ℕ)). filled (flatten l)) (rows-stand x cells order (1 + n) n m (k .fit) (k .within) (omega arith));
       }
 
   -- the counts of a done answer, and further values
-  pub image-values : (found after : List ℕ) (f : ℕ) → WrittenImage ids n cells order m found after f → (more : List ℕ)
+  pub image-values : (found after : List ℕ) (f : ℕ) → WrittenImage columns n cells order m found after f → (more : List ℕ)
       → m ∷ (1 + n + m * n) ∷ f ∷ more ≡ length rows ∷ length image ∷ filled (flatten rows) ∷ more
   image-values found after f w more =
       ap₂ (λ (x : ℕ) (l : List ℕ). x ∷ l) (sym count) (ap₂ (λ (x y : ℕ). x ∷ y ∷ more) image-words (w .count))
 
-  pub image-over : (found after : List ℕ) (f : ℕ) → WrittenImage ids n cells order m found after f
+  pub image-over : (found after : List ℕ) (f : ℕ) → WrittenImage columns n cells order m found after f
       → after ≡ image ++ drop (length image) found
   image-over found after f w = w .words ∙ ap (λ (j : ℕ). image ++ drop j found) image-words
 
   -- ---- the returns of `put_image`
 
   module _ (found : List ℕ) where
-    pub no-room : length found < 1 + n + m * n → PutImage (take n ids) rows m found (record { number = 10; words = 0; filled = 0 }) found
+    pub no-room : length found < 1 + n + m * n → PutImage (take n columns) rows m found (record { number = 10; words = 0; filled = 0 }) found
     no-room h = record {
       promise = λ more. record {
         answers = asked-no (length image) (length found) 9 _ (omega (arith, image-words));
@@ -83,8 +83,8 @@ module _ {ids : List ℕ} {n : ℕ} {cells order : List ℕ} {m : ℕ} (k : Writ
       };
     }
 
-    pub room : 1 + n + m * n ≤ length found → (after : List ℕ) (f : ℕ) → WrittenImage ids n cells order m found after f
-        → PutImage (take n ids) rows m found (record { number = 0; words = 1 + n + m * n; filled = f }) after
+    pub room : 1 + n + m * n ≤ length found → (after : List ℕ) (f : ℕ) → WrittenImage columns n cells order m found after f
+        → PutImage (take n columns) rows m found (record { number = 0; words = 1 + n + m * n; filled = f }) after
     room h after f w = record {
       promise = λ more. record {
         answers = ap done (image-values found after f w more)

@@ -1,12 +1,12 @@
 -- The words of an image that is written: its head, then its rows, and what the buffer held past them. Assumes nothing.
-use mathlib.Core.Path.{_≡_, refl, sym, _∙_, ap, ap₂}
-use mathlib.Core.List.{List, [], _∷_, _++_, map, flatten}
-use Prim.Native.Nat.{ℕ, zero, suc, _+_, _≤_, _<_}
+use mathlib.Core.Path.{_≡_, sym, _∙_, ap, ap₂}
+use mathlib.Core.List.{List, _∷_, _++_, flatten}
+use Prim.Native.Nat.{ℕ, _+_, _≤_, _<_}
 use native.Mathlib.Nat.{zero-add}
 use native.Mathlib.Omega.{arith}
-use lib.ListN.{length, take, drop, set, length-map, length-append}
+use lib.ListN.{length, take, drop, set, length-append}
 use lib.Seq.{paste, paste-zero, paste-suc, take-all, take-paste, drop-paste, drop-drop, length-take-le}
-use Rattle.definitions.specs.Word.{headerWord, columnWord}
+use Rattle.definitions.specs.Word.{headerWord}
 use Rattle.definitions.specs.Image.{imageOf}
 use Rattle.lists.proofs.Pastes.{paste-more}
 
@@ -24,27 +24,21 @@ paste-two {A} d s t x y n m es et fits ex ey =
     ey ∙ ap₂ (λ (p q : List A). p ++ take m t ++ q) front back ∙ ap (λ (p : List A). s ++ p ++ drop (length (s ++ t)) d) (take-all m t (omega arith))
 
 -- the head of an image and then its rows are the image
-pub image-written : (d x y ids : List ℕ) (rows : List (List ℕ)) (n m : ℕ) → length ids ≡ n → length (flatten rows) ≡ m → 1 + n + m ≤ length d
-    → x ≡ paste d 0 (headerWord (length rows) n ∷ map columnWord ids) (1 + n) → y ≡ paste x (1 + n) (flatten rows) m
-    → y ≡ imageOf ids rows ++ drop (length (imageOf ids rows)) d
+pub image-written : (d x y columns : List ℕ) (rows : List (List ℕ)) (n m : ℕ) → length columns ≡ n → length (flatten rows) ≡ m → 1 + n + m ≤ length d
+    → x ≡ paste d 0 (headerWord (length rows) n ∷ columns) (1 + n) → y ≡ paste x (1 + n) (flatten rows) m
+    → y ≡ imageOf columns rows ++ drop (length (imageOf columns rows)) d
 unfolding imageOf
-image-written d x y ids rows n m ei er fits ex ey =
-    let head : List ℕ = headerWord (length rows) n ∷ map columnWord ids in
-    let size : length head ≡ 1 + n = let l = length-map ids columnWord in omega arith in
-    paste-two d head (flatten rows) x y (1 + n) m size er fits ex ey
-    ∙ ap (λ (k : ℕ). let l = headerWord (length rows) k ∷ (map columnWord ids ++ flatten rows) in l ++ drop (length l) d) (sym ei)
-
-take-map : {A B : Type 0} (f : A → B) (n : ℕ) (l : List A) → take n (map f l) ≡ map f (take n l)
-take-map f zero l = refl
-take-map f (suc n) [] = refl
-take-map {B = B} f (suc n) (x ∷ l) = ap (λ (r : List B). f x ∷ r) (take-map f n l)
+image-written d x y columns rows n m ei er fits ex ey =
+    let head : List ℕ = headerWord (length rows) n ∷ columns in
+    paste-two d head (flatten rows) x y (1 + n) m (omega arith) er fits ex ey
+    ∙ ap (λ (k : ℕ). let l = headerWord (length rows) k ∷ (columns ++ flatten rows) in l ++ drop (length l) d) (sym ei)
 
 -- the header and then the column words are the head
-pub head-written : (d x y ids : List ℕ) (h n : ℕ) → n ≤ length ids → n < length d → x ≡ set d 0 h → y ≡ paste x 1 (map columnWord ids) n
-    → y ≡ paste d 0 (h ∷ map columnWord (take n ids)) (1 + n)
-head-written d x y ids h n short fits ex ey =
-    let s : List ℕ = h ∷ map columnWord (take n ids) in
+pub head-written : (d x y columns : List ℕ) (h n : ℕ) → n ≤ length columns → n < length d → x ≡ set d 0 h → y ≡ paste x 1 columns n
+    → y ≡ paste d 0 (h ∷ take n columns) (1 + n)
+head-written d x y columns h n short fits ex ey =
+    let s : List ℕ = h ∷ take n columns in
     let one : x ≡ paste d 0 s 1 = ex ∙ ap (λ (l : List ℕ). set l 0 h) (paste-zero d 0 s) ∙ paste-suc d 0 s 0 0 (omega arith) (omega arith) in
-    let size : length (map columnWord (take n ids)) ≡ n = length-map (take n ids) columnWord ∙ length-take-le n ids short in
-    let rest : take n (drop 1 s) ≡ take n (map columnWord ids) = take-all n (map columnWord (take n ids)) (omega arith) ∙ sym (take-map columnWord n ids) in
-    ey ∙ ap (λ (l : List ℕ). paste l 1 (map columnWord ids) n) one ∙ paste-more d 0 s 1 (map columnWord ids) n (omega arith) (omega arith) rest
+    let size = length-take-le n columns short in
+    let rest : take n (drop 1 s) ≡ take n columns = take-all n (take n columns) (omega arith) in
+    ey ∙ ap (λ (l : List ℕ). paste l 1 columns n) one ∙ paste-more d 0 s 1 columns n (omega arith) (omega arith) rest

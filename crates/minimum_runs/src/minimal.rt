@@ -24,6 +24,7 @@ pub(crate) fn few() {
     );
     minimum(b"minimum, none subsumed", b"12| 12 31 23", b"12| -4 4-", 20);
     minimum(b"minimum, number 0 subsumes", b"12| 0-", b"12| --", 8);
+    minimum(b"minimum of marked columns", b"a2| 3- 34", b"2c| 4- 45", 16);
 }
 
 pub(crate) fn many() {

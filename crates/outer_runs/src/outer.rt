@@ -30,6 +30,7 @@ pub(crate) fn columns() {
     outer(b"disjoint columns", b"31| 56", b"42| 78", 16);
     outer(b"shared columns", b"312| 567 -8-", b"24| 78 7-", 24);
     outer(b"same columns, other order", b"21| 56", b"12| 65", 8);
+    outer(b"marked columns", b"ca2| 567 -8-", b"b4| 78 7-", 24);
     outer(
         b"16 columns",
         b"12345678| 1-------",

@@ -53,8 +53,11 @@ pub(crate) fn words() {
     each_cut(b"one word long", 8);
     each(b"column of kind 1", 2, 0x4000_0002);
     each(b"bit 16 of a column", 1, 0x8001_0001);
-    each(b"bit 29 of a column", 2, 0xa000_0002);
+    each(b"bit 28 of a column", 2, 0x9000_0002);
+    each(b"bit 29 of a column, its mark", 2, 0xa000_0002);
+    each(b"bits 29 and 28 of a column", 2, 0xb000_0002);
     each(b"column given twice", 1, 0x8000_0002);
+    each(b"column given twice, once marked", 1, 0xa000_0002);
     each(b"cell of kind 2", 6, 0x8000_0000);
     each(b"cell of kind 3", 3, 0xc000_0001);
     each(b"cell of kind 0, not zero", 5, 1);

@@ -1,5 +1,5 @@
-// Table images from a short text: the column ids, a bar, then the cells row by row. A byte stands for the number that it is above `0`,
-// a `-` for the empty cell; spaces are passed over.
+// Table images from a short text: the columns, a bar, then the cells row by row. A byte stands for the number that it is above `0`, a `-`
+// for the empty cell; spaces are passed over. Of the columns, a small letter stands for a marked one: `a` for that with id 1.
 
 // Writes a word, if the list is long enough.
 pub fn put(word: u32, image: &mut [u32], at: usize) {
@@ -29,10 +29,18 @@ fn is_word(c: u8) -> bool {
     c != b'|'
 }
 
+// The column word of a byte.
+fn column(c: u8) -> u32 {
+    if c < b'a' {
+        return 0x8000_0000 | number(c);
+    }
+    0xa000_0000 | (1 + (c - b'a') as u32)
+}
+
 // The word of a byte: of a column as long as no bar has been met, else of a cell.
 fn word(c: u8, columns: u32) -> u32 {
     if columns == 0 {
-        return 0x8000_0000 | number(c);
+        return column(c);
     }
     if c == b'-' {
         return 0;

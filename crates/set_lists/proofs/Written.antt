@@ -15,29 +15,29 @@ use Rattle.definitions.proofs.SetWords.{fused-position-within}
 use Rattle.rows.specs.Indices.{Below}
 use Rattle.set_lists.specs.Records.{recordsOf}
 
-module _ (rows : List (List ℕ)) where
-  pub positions-below : length (unionSets rows) ≤ maxSets → Below maxSets (map (fusedPosition rows) (unionSets rows))
-  positions-below few = below (unionSets rows) (λ s h. omega (arith, fused-position-within rows s h, fused-count rows))
+module _ (columns : List ℕ) (rows : List (List ℕ)) where
+  pub positions-below : length (unionSets columns rows) ≤ maxSets → Below maxSets (map (fusedPosition columns rows) (unionSets columns rows))
+  positions-below few = below (unionSets columns rows) (λ s h. omega (arith, fused-position-within columns rows s h, fused-count columns rows))
     where
-      below : (ss : List (List Bool)) → ((s : List Bool) → Member s ss → fusedPosition rows s < maxSets) → Below maxSets (map (fusedPosition rows) ss)
+      below : (ss : List (List Bool)) → ((s : List Bool) → Member s ss → fusedPosition columns rows s < maxSets) → Below maxSets (map (fusedPosition columns rows) ss)
       below [] f = tt
       below (s ∷ ss) f = (f s (inl refl), below ss (λ t h. f t (inr h)))
 
-  records-are : (ss : List (List Bool)) → recordsOf (map bits ss) (map (fusedPosition rows) ss) ≡ map (setRecord rows) ss
+  records-are : (ss : List (List Bool)) → recordsOf (map bits ss) (map (fusedPosition columns rows) ss) ≡ map (setRecord columns rows) ss
   unfolding recordsOf setRecord
   records-are [] = refl
-  records-are (s ∷ ss) = ap (λ (t : List (List ℕ)). setRecord rows s ∷ t) (records-are ss)
+  records-are (s ∷ ss) = ap (λ (t : List (List ℕ)). setRecord columns rows s ∷ t) (records-are ss)
 
-  module _ (sets positions : List ℕ) (known : sets ≡ map bits (unionSets rows)) (fused : positions ≡ map (fusedPosition rows) (unionSets rows)) where
-    pub list-is : listOf markWords (recordsOf sets positions) ≡ setList rows
+  module _ (sets positions : List ℕ) (known : sets ≡ map bits (unionSets columns rows)) (fused : positions ≡ map (fusedPosition columns rows) (unionSets columns rows)) where
+    pub list-is : listOf markWords (recordsOf sets positions) ≡ setList columns rows
     unfolding setList
-    list-is = ap (listOf markWords) (ap₂ recordsOf known fused ∙ records-are (unionSets rows))
+    list-is = ap (listOf markWords) (ap₂ recordsOf known fused ∙ records-are (unionSets columns rows))
 
   -- the buffer after it
-  pub list-written : (sets positions found now : List ℕ) (count : ℕ) → length (unionSets rows) ≡ count
-      → sets ≡ map bits (unionSets rows) → positions ≡ map (fusedPosition rows) (unionSets rows)
+  pub list-written : (sets positions found now : List ℕ) (count : ℕ) → length (unionSets columns rows) ≡ count
+      → sets ≡ map bits (unionSets columns rows) → positions ≡ map (fusedPosition columns rows) (unionSets columns rows)
       → now ≡ listOf markWords (recordsOf sets positions) ++ drop (1 + setWidth * count) found
-      → now ≡ setList rows ++ drop (length (setList rows)) found
+      → now ≡ setList columns rows ++ drop (length (setList columns rows)) found
   list-written sets positions found now count e known fused written =
-      let size : 1 + setWidth * count ≡ length (setList rows) = ap (λ (k : ℕ). 1 + setWidth * k) (sym e) ∙ sym (set-list-length rows) in
+      let size : 1 + setWidth * count ≡ length (setList columns rows) = ap (λ (k : ℕ). 1 + setWidth * k) (sym e) ∙ sym (set-list-length columns rows) in
       written ∙ ap₂ (λ (l : List ℕ) (k : ℕ). l ++ drop k found) (list-is sets positions known fused) size

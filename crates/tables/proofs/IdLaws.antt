@@ -1,5 +1,5 @@
 -- The ids of two images: those of the first, and after them those of the second that are new. Assumes nothing.
-use mathlib.Core.Path.{_≡_, refl, sym, _∙_, ap, ap₂}
+use mathlib.Core.Path.{_≡_, refl, sym, _∙_, ap, ap₂, subst}
 use mathlib.Core.Bool.{Bool, true, false, not}
 use mathlib.Core.List.{List, [], _∷_, _++_, map, append-nil, append-assoc}
 use Prim.Native.Nat.{ℕ, _+_, _-_, _≤_, _<_}
@@ -11,16 +11,20 @@ use lib.Seq.{paste, take-all, take-take, take-append-le, take-set-le, take-suc-s
 use Rattle.definitions.specs.Limits.{maxColumns, maxRows, maxIds}
 use Rattle.definitions.specs.Lists.{any, filter, distinct}
 use Rattle.definitions.specs.Word.{idOf}
-use Rattle.definitions.specs.Image.{columnCount, imageIds}
+use Rattle.definitions.specs.Image.{columnCount, columnWords, imageIds}
 use Rattle.definitions.specs.Ascending.{ascending}
-use Rattle.definitions.specs.OuterUnion.{compareWord, unionIds}
+use Rattle.definitions.specs.OuterUnion.{compareWord, unionIds, unionColumn, unionColumns}
 use Rattle.definitions.specs.Questions.{imageNumber}
-use Rattle.definitions.proofs.Lists.{keep-took, filter-left}
+use Rattle.definitions.specs.Statements.{Member}
+use Rattle.definitions.proofs.Lists.{keep-took, filter-left, member-get}
+use Rattle.definitions.proofs.Ascending.{ascending-has}
+use Rattle.definitions.proofs.Orders.{words}
 use Rattle.definitions.proofs.Questions.{passed-is}
 use Rattle.definitions.proofs.Images.{passed-ids}
+use Rattle.definitions.proofs.UnionColumns.{small-ids}
 use Rattle.images.proofs.Parts.{columns-part}
 use Rattle.lists.proofs.Pastes.{paste-front}
-use Rattle.tables.specs.UnionIds.{withNew, BothIds}
+use Rattle.tables.specs.UnionIds.{withNew, inOrder, BothIds, ColumnIds}
 use Rattle.tables.proofs.Smaller.{distinct-count, new-distinct, new-ascending}
 
 -- ---- the loop: i ids are looked at, and those that are new stand after the first m
@@ -120,3 +124,18 @@ both-added all x y a b p q k m r u v ex ey few oa ob =
 -- a table's columns are as many as the ids
 pub both-count : (a b all : List ℕ) → BothIds a b all → length (unionIds a b) ≡ length all
 both-count a b all d = ap length (sym (d .union)) ∙ distinct-count all (d .differ)
+
+-- they can be the ids of column words
+pub found-ids : (a b all : List ℕ) → BothIds a b all → length all ≤ maxColumns → ColumnIds all
+found-ids a b all d few = record {
+  few = few;
+  differ = d .differ;
+  small = λ k h. small-ids a b (getD all k 0) (subst (Member (getD all k 0)) (d .union) (ascending-has words (getD all k 0) all (member-get 0 all k h)));
+}
+
+-- the column words of these ids, in order, are the union's
+pub new-columns : (a b all : List ℕ) → BothIds a b all → (first second : List ℕ) → first ≡ columnWords a → second ≡ columnWords b
+    → map (unionColumn first second) (inOrder all) ≡ unionColumns a b
+unfolding unionColumns
+new-columns a b all d first second ea eb =
+    ap₂ (λ (p q : List ℕ). map (unionColumn p q) (inOrder all)) ea eb ∙ ap (map (unionColumn (columnWords a) (columnWords b))) (d .union)

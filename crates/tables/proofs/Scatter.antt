@@ -17,7 +17,7 @@ use Rattle.definitions.specs.Statements.{Member, StrictlyAscending}
 use Rattle.definitions.proofs.Bools.{bool-cases, clash}
 use Rattle.definitions.proofs.Ascending.{is-strict, ascending-only, ascending-has}
 use Rattle.definitions.proofs.Orders.{words}
-use Rattle.definitions.proofs.Lists.{member-get, member-at, member-map, map-member, map-ext, any-of}
+use Rattle.definitions.proofs.Lists.{member-get, member-at, member-map, map-member, map-ext, map-at, any-of}
 use Rattle.definitions.proofs.Widened.{cell-own, widened-own, widened-lacking}
 use Rattle.lists.proofs.Pastes.{paste-front}
 use Rattle.lists.proofs.Walks.{next, end}
@@ -171,28 +171,26 @@ pub indices-ordered : (all ids : List ℕ) → distinct eqb all ≡ true → ind
 indices-ordered all ids differ =
     map-ext (λ id. smallerThan id all) (λ id. smallerThan id (ascending compareWord all)) ids (λ id s. sym (smaller-ascending id all differ))
 
--- ---- distinct ids, each written at the count of smaller ones, are ascending
+-- ---- distinct ids, each with what f tells of it written at the count of smaller ones, are in order
 
-own-cells : (f : ℕ → ℕ) (l : List ℕ) → ((x : ℕ) → Member x l → f x ≡ x) → map f l ≡ l
-own-cells f [] h = refl
-own-cells f (x ∷ l) h = ap₂ (λ (y : ℕ) (r : List ℕ). y ∷ r) (h x (inl refl)) (own-cells f l (λ y s. h y (inr s)))
-
-module _ (all cells cur : List ℕ) (differ : distinct eqb all ≡ true) (room : length all ≤ length cells) (empty : (k : ℕ) → getD cells k 0 ≡ 0)
-    (written : cur ≡ scattered cells 0 (indicesIn all all) all) where
+module _ (f : ℕ → ℕ) (all cells cur : List ℕ) (differ : distinct eqb all ≡ true) (room : length all ≤ length cells)
+    (empty : (k : ℕ) → getD cells k 0 ≡ 0) (written : cur ≡ scattered cells 0 (indicesIn all all) (map f all)) where
   abbrev sorted : List ℕ
   sorted = ascending compareWord all
 
-  sorted-own : widened sorted all all ≡ sorted
+  sorted-values : widened sorted all (map f all) ≡ map f sorted
   unfolding widened
-  sorted-own =
-      own-cells (cellIn all all) sorted (λ x s.
+  sorted-values =
+      map-ext (cellIn all (map f all)) f sorted (λ x s.
       let i = member-at 0 x all (ascending-only words x all s) in
-      ap (cellIn all all) (sym (i .2)) ∙ cell-own sorted all all differ (i .0) (i .1) ∙ i .2)
+      ap (cellIn all (map f all)) (sym (i .2)) ∙ cell-own sorted all (map f all) differ (i .0) (i .1) ∙ map-at f 0 0 all (i .0) (i .1) ∙ ap f (i .2))
 
-  pub ids-sorted : (take (length all) cur ≡ sorted) × (length all ≡ length sorted)
-  ids-sorted =
+  pub values-sorted : take (length all) cur ≡ map f sorted
+  values-sorted =
       let count : length sorted ≡ length all = distinct-count all differ in
-      let goal : cur ≡ paste cells 0 (widened sorted all all) (length sorted) =
-      written ∙ ap (λ (l : List ℕ). scattered cells 0 l all) (indices-ordered all all differ)
-      ∙ scatter-widened sorted all all cells 0 (is-strict words all) differ (λ id s. ascending-has words id all s) refl (omega arith) (λ k h. empty (0 + k)) in
-      (paste-front cells sorted cur (length all) count (goal ∙ ap₂ (λ (l : List ℕ) (n : ℕ). paste cells 0 l n) sorted-own count), sym count)
+      let goal : cur ≡ paste cells 0 (widened sorted all (map f all)) (length sorted) =
+      written ∙ ap (λ (l : List ℕ). scattered cells 0 l (map f all)) (indices-ordered all all differ)
+      ∙ scatter-widened sorted all (map f all) cells 0 (is-strict words all) differ (λ id s. ascending-has words id all s) (length-map all f)
+      (omega arith) (λ k h. empty (0 + k)) in
+      paste-front cells (map f sorted) cur (length all) (length-map sorted f ∙ count)
+      (goal ∙ ap₂ (λ (l : List ℕ) (n : ℕ). paste cells 0 l n) sorted-values count)

@@ -10,12 +10,13 @@ use lib.Seq.{paste, length-paste, take-paste, take-all, length-take-le}
 use Rattle.definitions.specs.Limits.{maxColumns, maxRows, maxUnionRows}
 use Rattle.definitions.specs.Image.{rowCount, imageIds, rowsIn}
 use Rattle.definitions.specs.Ascending.{ascending}
-use Rattle.definitions.specs.OuterUnion.{compareWord, compareRow, widenedRows, unionIds}
+use Rattle.definitions.specs.OuterUnion.{compareWord, compareRow, widenedRows, unionIds, unionColumns}
 use Rattle.definitions.specs.Questions.{imageNumber}
 use Rattle.definitions.specs.Statements.{Member, StrictlyAscending}
 use Rattle.definitions.proofs.Ascending.{member-join, is-strict, ascending-only, ascending-has}
 use Rattle.definitions.proofs.Orders.{words, rows}
 use Rattle.definitions.proofs.Questions.{passed-is}
+use Rattle.definitions.proofs.Unions.{columns-count}
 use Rattle.definitions.proofs.Images.{widened-count, rows-wide}
 use Rattle.lists.proofs.Pastes.{paste-front}
 use Rattle.lists.proofs.Flat.{Wide, rows-local, rows-append, flat-rows-all, pasted-rows}
@@ -126,14 +127,14 @@ cells-ordered w n m wide order cells cur h k o e =
     let count : length rs ≡ m = sym (ap length (o .rows)) ∙ length-map (take m order) (rowAt w wide) ∙ length-take-le m order k in
     pasted-rows w m rs cells cur even count (e ∙ ap (λ (l : List (List ℕ)). paste cells 0 (flatten l) (m * w)) (o .rows))
 
--- a new table with the ids of both images, and rows in it
-pub filled-table : {a b all : List ℕ} {rs : List (List ℕ)} {t : Table} → Found a b all → (new : Table) → NewTable all new
-    → t .ids ≡ new .ids → t .columns ≡ new .columns → CellsOf rs (length all) (t .rows) (t .cells) → TableOf t (unionIds a b) rs
+-- a new table with the columns of both images, and rows in it
+pub filled-table : {a b all : List ℕ} {rs : List (List ℕ)} {t : Table} → Found a b all → (new : Table) → NewTable a b (length all) new
+    → t .ids ≡ new .ids → t .columns ≡ new .columns → CellsOf rs (length all) (t .rows) (t .cells) → TableOf t (unionColumns a b) rs
 filled-table {a} {b} {all} {rs} {t} f new made ti tc cells =
     let wide : t .columns ≡ length all = tc ∙ made .columns in
     record {
-      columns = wide ∙ sym (both-count a b all (f .ids));
-      ids = ap₂ take wide ti ∙ made .ids ∙ f .ids .union;
+      columns = wide ∙ sym (columns-count a b ∙ both-count a b all (f .ids));
+      ids = ap₂ take wide ti ∙ made .ids;
       rows-are = ap (λ (k : ℕ). rowsIn k (t .rows) (t .cells)) wide ∙ cells .rows-are;
       few-columns = omega (arith, f .few);
       few-rows = cells .few-rows;

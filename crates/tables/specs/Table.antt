@@ -9,7 +9,7 @@ use lib.Seq.{paste}
 use Rattle.definitions.specs.Lists.{distinct}
 use Rattle.definitions.specs.Limits.{maxColumns, maxRows, maxUnionRows}
 use Rattle.definitions.specs.Image.{rowsIn, rowCount}
-use Rattle.definitions.specs.OuterUnion.{widenedRows, unionIds}
+use Rattle.definitions.specs.OuterUnion.{widenedRows, unionIds, unionColumns}
 use Rattle.definitions.specs.Questions.{imageNumber}
 use Rattle.tables.specs.declared.Table.{Table}
 use Rattle.tables.specs.UnionIds.{inOrder, BothIds, Covers}
@@ -48,11 +48,11 @@ pub record Unordered (width n : ℕ) (wide cells : List ℕ) : Type 0 where
   pub fits : n * width ≤ length wide
   pub room : maxUnionRows * maxColumns ≤ length cells
 
--- a table with these ids in order, no rows and empty cells
-pub record NewTable (all : List ℕ) (t : Table) : Type 0 where
-  pub ids : take (length all) (t .ids) ≡ inOrder all
+-- a table with the union's columns, n of them, no rows and empty cells
+pub record NewTable (a b : List ℕ) (n : ℕ) (t : Table) : Type 0 where
+  pub ids : take n (t .ids) ≡ unionColumns a b
   pub id-words : length (t .ids) ≡ maxColumns
-  pub columns : t .columns ≡ length all
+  pub columns : t .columns ≡ n
   pub rows : t .rows ≡ 0
   pub empty : (k : ℕ) → getD (t .cells) k 0 ≡ 0
 
@@ -62,7 +62,7 @@ pub record CellsOf (rows : List (List ℕ)) (width n : ℕ) (cells : List ℕ) :
   pub few-rows : n ≤ maxUnionRows
   pub cell-words : length cells ≡ maxUnionRows * maxColumns
 
--- the table with these column ids and rows
+-- the table with these column words and rows
 pub record TableOf (t : Table) (union : List ℕ) (rows : List (List ℕ)) : Type 0 where
   pub columns : t .columns ≡ length union
   pub ids : take (t .columns) (t .ids) ≡ union

@@ -2,9 +2,10 @@
 use mathlib.Core.Path.{_≡_}
 use mathlib.Core.Bool.{true, not}
 use mathlib.Core.List.{List, [], _∷_, _++_, map}
-use Prim.Native.Nat.{ℕ, _+_}
+use Prim.Native.Nat.{ℕ, _+_, _^_, _≤_, _<_}
 use lib.Dec.{eqb, ltb}
-use lib.ListN.{length, set}
+use lib.ListN.{length, getD, set}
+use Rattle.definitions.specs.Limits.{maxColumns}
 use Rattle.definitions.specs.Lists.{any, filter, distinct}
 use Rattle.definitions.specs.Image.{imageIds}
 use Rattle.definitions.specs.Ascending.{ascending}
@@ -23,6 +24,12 @@ inOrder ids = ascending compareWord ids
 pub record BothIds (a b all : List ℕ) : Type 0 where
   pub differ : distinct eqb all ≡ true
   pub union : inOrder all ≡ unionIds a b
+
+-- distinct ids that column words can hold, few enough for a table
+pub record ColumnIds (all : List ℕ) : Type 0 where
+  pub few : length all ≤ maxColumns
+  pub differ : distinct eqb all ≡ true
+  pub small : (k : ℕ) → k < length all → getD all k 0 < 2 ^ 16
 
 -- how many words of a list are smaller
 abbrev pub smallerThan : ℕ → List ℕ → ℕ

@@ -1,23 +1,17 @@
 // The table in work, and the outer union of two accepted images in it.
-ghost use mathlib.Core.Path.{_≡_};
-ghost use mathlib.Core.Bool.{true};
-ghost use Prim.Native.Nat.{_≤_};
-ghost use lib.Dec.{eqb};
 ghost use lib.ListN.{length};
-ghost use Rattle.definitions.specs.Limits.{maxColumns};
-ghost use Rattle.definitions.specs.Lists.{distinct};
-ghost use Rattle.tables.specs.Table.{NewTable};
+ghost use Rattle.tables.specs.Table.{Found, NewTable};
 
 mod columns;
 mod union;
 mod widen;
 
 pub use columns::both_ids;
-use columns::sort_ids;
+use columns::sort_columns;
 pub use union::union_rows;
 pub use union::widen_both;
 
-// A table in work: its cells row by row, its column ids and both counts.
+// A table in work: its cells row by row, its column ids and both counts. With an id stands its mark: `ids` holds the column words.
 pub struct Table {
     pub cells: [u32; Table::MAX_CELLS],
     pub ids: [u32; Table::MAX_COLUMNS],
@@ -41,13 +35,15 @@ impl Table {
         columns: 0,
     };
 
-    // A table whose columns have these ids, in order; it has no rows, and empty cells.
-    pub fn new(all: &[u32]) -> Table
-        requires { ⌜ (length (now all) ≤ maxColumns) × (distinct eqb (now all) ≡ true) ⌝ }
-        ensures { λ r. ⌜ NewTable (now (all .entry)) r ⌝ }
+    // A table with the union's columns, whose distinct ids are told as they were found; it has no rows, and empty cells.
+    pub fn new(a: &[u32], b: &[u32], all: &[u32]) -> Table
+        requires { ⌜ Found (now a) (now b) (now all) ⌝ }
+        ensures { λ r. ⌜ NewTable (now (a .entry)) (now (b .entry)) (length (now (all .entry))) r ⌝ }
     {
         let mut t = Self::EMPTY;
-        sort_ids(all, &mut t.ids);
+        let first = 1 + words::columns(a[0]) as usize;
+        let second = 1 + words::columns(b[0]) as usize;
+        sort_columns(&a[1..first], &b[1..second], all, &mut t.ids);
         t.columns = all.len();
         t
     }

@@ -20,7 +20,7 @@ fn fuse_accepted(
     ensures { λ r. ⌜ ComplementPromise (now (a .entry)) (now (b .entry)) (now (table .entry)) (now (sets .entry))
         (complementSays r) (now (table .exit)) (now (sets .exit)) ⌝ }
 {
-    let mut t = Table::new(ids);
+    let mut t = Table::new(a, b, ids);
     t.rows = tables::union_rows(a, b, ids, &mut t.cells);
     fuse_table(&t.ids, t.columns, &t.cells, t.rows, table, sets)
 }

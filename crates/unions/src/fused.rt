@@ -16,7 +16,7 @@ const FEW_SETS: usize = 64;
 
 // The fused table goes to the table buffer, the set list to the set buffer. The lists for joined rows have room for the sets.
 fn write_fused(
-    ids: &[u32],
+    column_words: &[u32],
     cells: &[u32],
     n: usize,
     columns: &[u64],
@@ -27,20 +27,29 @@ fn write_fused(
     table: &mut [u32],
     sets: &mut [u32],
 ) -> ComplementAnswer
-    requires { ⌜ ListedTable (now ids) (now cells) n (now columns) (now list) ⌝ }
-    requires { ⌜ RoomFor (length (now list)) (length (now ids)) (now joined) (now order) (now positions) ⌝ }
-    ensures { λ r. ⌜ FusedInto (now (ids .entry)) (rowsIn (length (now (ids .entry))) n (now (cells .entry)))
+    requires { ⌜ ListedTable (now «column_words») (now cells) n (now columns) (now list) ⌝ }
+    requires { ⌜ RoomFor (length (now list)) (length (now «column_words»)) (now joined) (now order) (now positions) ⌝ }
+    ensures { λ r. ⌜ FusedInto (now («column_words» .entry)) (rowsIn (length (now («column_words» .entry))) n (now (cells .entry)))
         (complementSays r) (now (table .entry)) (now (table .exit)) (now (sets .entry)) (now (sets .exit)) ⌝ }
 {
-    let width = ids.len();
-    let rows = fusing::fuse_rows(cells, n, width, columns, list, joined, order, positions);
+    let width = column_words.len();
+    let rows = fusing::fuse_rows(
+        column_words,
+        cells,
+        n,
+        columns,
+        list,
+        joined,
+        order,
+        positions,
+    );
     let words = 1 + width + rows * width;
     let set_words = 1 + SET_WIDTH * list.len();
     let number = check_room(words, table.len(), set_words, sets.len());
     if number != 0 {
         return ComplementAnswer::Refused { number, table: 2 };
     }
-    let filled = images::write_image(ids, width, joined, order, rows, table);
+    let filled = images::write_image(column_words, width, joined, order, rows, table);
     set_lists::write_list(list, positions, list.len(), sets);
     ComplementAnswer::Done {
         rows,
@@ -53,7 +62,7 @@ fn write_fused(
 
 // Lends short lists.
 fn fuse_few(
-    ids: &[u32],
+    column_words: &[u32],
     cells: &[u32],
     n: usize,
     columns: &[u64],
@@ -61,15 +70,15 @@ fn fuse_few(
     table: &mut [u32],
     sets: &mut [u32],
 ) -> ComplementAnswer
-    requires { ⌜ ListedTable (now ids) (now cells) n (now columns) (now list) × (length (now list) ≤ fewSets) ⌝ }
-    ensures { λ r. ⌜ FusedInto (now (ids .entry)) (rowsIn (length (now (ids .entry))) n (now (cells .entry)))
+    requires { ⌜ ListedTable (now «column_words») (now cells) n (now columns) (now list) × (length (now list) ≤ fewSets) ⌝ }
+    ensures { λ r. ⌜ FusedInto (now («column_words» .entry)) (rowsIn (length (now («column_words» .entry))) n (now (cells .entry)))
         (complementSays r) (now (table .entry)) (now (table .exit)) (now (sets .entry)) (now (sets .exit)) ⌝ }
 {
     let mut joined = [0u32; FEW_SETS * MAX_COLUMNS];
     let mut order = [0u32; FEW_SETS];
     let mut positions = [0u32; FEW_SETS];
     write_fused(
-        ids,
+        column_words,
         cells,
         n,
         columns,
@@ -84,7 +93,7 @@ fn fuse_few(
 
 // Lends lists for all sets.
 fn fuse_many(
-    ids: &[u32],
+    column_words: &[u32],
     cells: &[u32],
     n: usize,
     columns: &[u64],
@@ -92,15 +101,15 @@ fn fuse_many(
     table: &mut [u32],
     sets: &mut [u32],
 ) -> ComplementAnswer
-    requires { ⌜ ListedTable (now ids) (now cells) n (now columns) (now list) ⌝ }
-    ensures { λ r. ⌜ FusedInto (now (ids .entry)) (rowsIn (length (now (ids .entry))) n (now (cells .entry)))
+    requires { ⌜ ListedTable (now «column_words») (now cells) n (now columns) (now list) ⌝ }
+    ensures { λ r. ⌜ FusedInto (now («column_words» .entry)) (rowsIn (length (now («column_words» .entry))) n (now (cells .entry)))
         (complementSays r) (now (table .entry)) (now (table .exit)) (now (sets .entry)) (now (sets .exit)) ⌝ }
 {
     let mut joined = [0u32; MAX_SETS * MAX_COLUMNS];
     let mut order = [0u32; MAX_SETS];
     let mut positions = [0u32; MAX_SETS];
     write_fused(
-        ids,
+        column_words,
         cells,
         n,
         columns,
@@ -115,7 +124,7 @@ fn fuse_many(
 
 // Lends lists that are as short as the number of sets allows.
 fn fuse_sets(
-    ids: &[u32],
+    column_words: &[u32],
     cells: &[u32],
     n: usize,
     columns: &[u64],
@@ -123,17 +132,18 @@ fn fuse_sets(
     table: &mut [u32],
     sets: &mut [u32],
 ) -> ComplementAnswer
-    requires { ⌜ ListedTable (now ids) (now cells) n (now columns) (now list) ⌝ }
-    ensures { λ r. ⌜ FusedInto (now (ids .entry)) (rowsIn (length (now (ids .entry))) n (now (cells .entry)))
+    requires { ⌜ ListedTable (now «column_words») (now cells) n (now columns) (now list) ⌝ }
+    ensures { λ r. ⌜ FusedInto (now («column_words» .entry)) (rowsIn (length (now («column_words» .entry))) n (now (cells .entry)))
         (complementSays r) (now (table .entry)) (now (table .exit)) (now (sets .entry)) (now (sets .exit)) ⌝ }
 {
     if list.len() <= FEW_SETS {
-        return fuse_few(ids, cells, n, columns, list, table, sets);
+        return fuse_few(column_words, cells, n, columns, list, table, sets);
     }
-    fuse_many(ids, cells, n, columns, list, table, sets)
+    fuse_many(column_words, cells, n, columns, list, table, sets)
 }
 
-// The questions from 9 on, for the first n rows of a table in work and the first ids, a column each.
+// The questions from 9 on, for a table in work: its first n rows, and the first column words of its ids, one a column. Ids and cells have one lifetime so that two
+// fields of one table can be lent.
 pub(crate) fn fuse_table<'a>(
     ids: &'a [u32],
     width: usize,
@@ -146,10 +156,11 @@ pub(crate) fn fuse_table<'a>(
     ensures { λ r. ⌜ FusedUnion (take width (now (ids .entry))) (rowsIn width n (now (cells .entry))) (complementSays r)
         (now (table .entry)) (now (table .exit)) (now (sets .entry)) (now (sets .exit)) ⌝ }
 {
+    let column_words = &ids[..width];
     let mut columns = [0u64; MAX_COLUMNS];
     patterns::fill_columns(cells, n, width, &mut columns);
     let mut list = [0u64; MAX_SETS + 1];
-    let count = fusing::list_sets(cells, n, width, &columns, &mut list);
+    let count = fusing::list_sets(column_words, cells, n, &columns, &mut list);
     if MAX_SETS < count {
         return ComplementAnswer::Refused {
             number: 9,
@@ -157,5 +168,5 @@ pub(crate) fn fuse_table<'a>(
         };
     }
     let all = &list[..count];
-    fuse_sets(&ids[..width], cells, n, &columns, all, table, sets)
+    fuse_sets(column_words, cells, n, &columns, all, table, sets)
 }

@@ -13,7 +13,7 @@ fn minimise_accepted(a: &[u32], b: &[u32], ids: &[u32], table: &mut [u32]) -> Mi
     ensures { λ r. ⌜ MinimumPromise (now (a .entry)) (now (b .entry)) (now (table .entry)) (minimumSays r)
         (now (table .exit)) ⌝ }
 {
-    let mut t = Table::new(ids);
+    let mut t = Table::new(a, b, ids);
     t.rows = tables::union_rows(a, b, ids, &mut t.cells);
     let mut kept = [0u32; Table::MAX_ROWS];
     let left = minimum::minimum_rows(&t.cells, t.rows, t.columns, &mut kept);

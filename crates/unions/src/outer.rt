@@ -13,7 +13,7 @@ fn unite_accepted(a: &[u32], b: &[u32], ids: &[u32], table: &mut [u32]) -> Outer
     ensures { λ r. ⌜ OuterPromise (now (a .entry)) (now (b .entry)) (now (table .entry)) (outerSays r)
         (now (table .exit)) ⌝ }
 {
-    let mut t = Table::new(ids);
+    let mut t = Table::new(a, b, ids);
     t.rows = tables::widen_both(a, b, ids, &mut t.cells);
     let mut order = [0u32; Table::MAX_ROWS];
     let mut spare = [0u32; Table::MAX_ROWS];

@@ -1,7 +1,8 @@
 // The fields of a 32-bit word of an image, by shifts and masks.
 ghost use mathlib.Core.Path.{_≡_};
 ghost use Prim.Native.Nat.{_<_, _%_, _^_};
-ghost use Rattle.definitions.specs.Word.{kindOf, wordOf, rowsOf, columnsOf, headerSpare, headerWord, idOf, columnSpare, isCell};
+ghost use Rattle.definitions.specs.Word.{kindOf, wordOf, rowsOf, columnsOf, headerSpare, headerWord, idOf, markOf, columnSpare};
+ghost use Rattle.definitions.specs.Word.{columnWord, isCell};
 ghost use Rattle.definitions.specs.Image.{isHeader};
 
 // The two top bits.
@@ -56,11 +57,18 @@ pub fn id(w: u32) -> u32
     w & 0xffff
 }
 
-// Bits 29 to 16 of a column word.
+// Whether a column word has the mark, bit 29.
+pub fn is_marked(w: u32) -> bool
+    ensures { λ r. ⌜ r ≡ markOf w ⌝ }
+{
+    (w >> 29) & 1 == 1
+}
+
+// Bits 28 to 16 of a column word.
 pub fn column_spare(w: u32) -> u32
     ensures { λ r. ⌜ r ≡ columnSpare w ⌝ }
 {
-    (w >> 16) & 0x3fff
+    (w >> 16) & 0x1fff
 }
 
 // Whether a word may stand as a cell: zero, or of kind 1.
@@ -90,4 +98,15 @@ pub fn header_word(rows: u32, columns: u32) -> u32
     ensures { λ r. ⌜ r ≡ headerWord rows columns ⌝ }
 {
     word_of(3, (rows << 18) | columns)
+}
+
+// The word of a column with its id, marked or not.
+pub fn column_word(id: u32, marked: bool) -> u32
+    requires { ⌜ id < 2 ^ 16 ⌝ }
+    ensures { λ r. ⌜ r ≡ columnWord id marked ⌝ }
+{
+    if marked {
+        return word_of(2, (1 << 29) | id);
+    }
+    word_of(2, id)
 }

@@ -8,12 +8,12 @@ use Rattle.fusing.proofs.fused.fuse_rows.Statement.{statement}
 use Rattle.fusing.proofs.fused.fuse_rows.Tie as tie
 
 join-sets-requires : tie.Need-join-sets-requires
-join-sets-requires c κs = let p = c .before .before .before .before .before .before .before .pre in (p .0 .0, p .0 .1, p .1 .rows)
+join-sets-requires c κs = let p = c .before .before .before .before .before .before .before .before .pre in (p .0 .0, p .0 .1, p .1 .rows)
 
 order-rows-requires : tie.Need-order-rows-requires
 order-rows-requires c κs =
     let j = c .before .before .before .before in
-    let s = j .before .before .before .before .before .before .before .before .before in
+    let s = j .before .before .before .before .before .before .before .before .before .before in
     let room = s .pre .1 in
     record {
       named = omega (arith, s .pre .0 .1 .few);
@@ -27,7 +27,7 @@ find-positions-requires c κs =
     let q = c .before .before .before .before in
     let o = q .before .before .before in
     let j = o .before .before .before .before .before in
-    let s = j .before .before .before .before .before .before .before .before .before in
+    let s = j .before .before .before .before .before .before .before .before .before .before in
     let room = s .pre .1 in
     let e = o .order-rows .ensures in (
       record {
@@ -52,11 +52,12 @@ returns : tie.Need-returns
 returns c =
     let o = c .before .before .before .before .before .before .before .before .before .before in
     let j = o .before .before .before .before .before in
-    let s = j .before .before .before .before .before .before .before .before .before in
+    let s = j .before .before .before .before .before .before .before .before .before .before in
     let room = s .pre .1 in
     let e = o .order-rows .ensures in
     let order = c .before .before .before .before .before .before .before .before .before .order .given in
-    fused-of (rowsIn (s .args .width) (s .args .n) (s .args .cells .now)) (s .args .width) (length (s .args .list .now)) _ _ _
+    let words = s .args .column-words .now in
+    fused-of words (rowsIn (length words) (s .args .n) (s .args .cells .now)) (length words) (length (s .args .list .now)) _ _ _
     (j .before .join-sets .ensures) (e .1) _ _ (omega (arith, room .rows, j .joined .given)) (e .0) (omega (arith, e .0, room .indices, order))
     (c .before .before .find-positions .ensures)
 

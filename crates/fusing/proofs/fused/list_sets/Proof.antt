@@ -1,4 +1,5 @@
 -- The sets of the graph of T are the maximal sets of T.
+use lib.ListN.{length}
 use Rattle.fusing.proofs.FusedTables.{graph-for, sets-of}
 use borrow.Author.Needs.{needs}
 use Rattle.fusing.proofs.fused.list_sets.Statement.{statement}
@@ -13,16 +14,16 @@ fill-neighbours-requires c κs = search needs
 find-sets-requires : tie.Need-find-sets-requires
 find-sets-requires c κs =
     let n = c .before .before .before in
-    let q = n .before .before .before .before in
+    let q = n .before .before .before .before .before in
     let s = q .args in
-    (graph-for (s .width) (s .n) (s .cells .now) _ (n .fill-neighbours .ensures), q .pre .0 .few, q .pre .1)
+    (graph-for (s .column-words .now) (length (s .column-words .now)) (s .n) (s .cells .now) _ (n .fill-neighbours .ensures), q .pre .0 .few, q .pre .2)
 
 returns : tie.Need-returns
 returns c =
     let n = c .before .before .before .before in
-    let s = n .before .before .before .before .args in
+    let s = n .before .before .before .before .before .args in
     let f = c .find-sets .ensures in
-    (f .0, sets-of (s .width) (s .n) _ (s .cells .now) _ _ (n .fill-neighbours .ensures) (f .1))
+    (f .0, sets-of (s .column-words .now) (length (s .column-words .now)) (s .n) _ (s .cells .now) _ _ (n .fill-neighbours .ensures) (f .1))
 
 pub list-sets-spec : {M : Type 1} → statement M
 list-sets-spec =

@@ -1,11 +1,21 @@
 -- `fill_neighbours` meets its contract: rows that cross and agree complement each other.
 use borrow.Author.Needs.{needs}
 use native.Mathlib.Omega.{arith}
+use lib.ListN.{length}
 use Rattle.definitions.proofs.Images.{rows-length}
 use Rattle.definitions.specs.Image.{rowsIn}
 use Rattle.fusing.proofs.Neighbours.{graph-of}
 use Rattle.fusing.proofs.graph.fill_neighbours.Statement.{statement}
 use Rattle.fusing.proofs.graph.fill_neighbours.Tie as tie
+
+slice-aggregate-count-columns : tie.Need-slice-aggregate-count-columns
+slice-aggregate-count-columns c = search needs
+
+count-columns-requires : tie.Need-count-columns-requires
+count-columns-requires c κs = search needs
+
+slice-aggregate-cross-rows : tie.Need-slice-aggregate-cross-rows
+slice-aggregate-cross-rows c = search needs
 
 cross-rows-requires : tie.Need-cross-rows-requires
 cross-rows-requires c κs = search needs
@@ -18,14 +28,16 @@ same-length c = search needs
 
 returns : tie.Need-returns
 returns c =
-    let s = c .before .before .before .before .before .before .before .before .before .before .before in
+    let s = c .before .before .before .before .before .before .before .before .before .before .before .before .before .before .before .before in
     let a = s .args in
+    let words = a .column-words .now in
     let x = c .before .before .before .before .before .before .cross-rows in
     let n = c .before .before .narrow-columns in
-    graph-of (rowsIn (a .width) (a .n) (a .cells .now)) _ _ (x .ensures) (n .ensures)
-    (omega (arith, rows-length (a .width) (a .n) (a .cells .now), n .kept .1 .1 .1 .1 .0, x .kept .1 .1 .1 .1 .0, s .pre .1))
+    graph-of words (rowsIn (length words) (a .n) (a .cells .now)) _ _ (x .ensures) (n .ensures)
+    (omega (arith, rows-length (length words) (a .n) (a .cells .now), n .kept .1 .1 .1 .1 .0, x .kept .1 .1 .1 .1 .1 .0, s .pre .2))
 
 pub fill-neighbours-spec : {M : Type 1} → statement M
 fill-neighbours-spec =
     tie.close
-    (tie.spec cross-rows-requires narrow-columns-requires same-length returns)
+    (tie.spec slice-aggregate-count-columns count-columns-requires slice-aggregate-cross-rows cross-rows-requires
+    narrow-columns-requires same-length returns)

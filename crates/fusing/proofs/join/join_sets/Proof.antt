@@ -16,18 +16,19 @@ use Rattle.fusing.proofs.join.join_sets.Statement.{statement}
 use Rattle.fusing.proofs.join.join_sets.Tie as tie
 
 abbrev Inv-loop : tie.InvT-loop
-Inv-loop cells n width columns sets out₀ k₀ at₀ out k at =
-    (k ≤ length sets) × (at ≡ k * width) × Pasted out₀ 0 (flatten (joinedRows (rowsIn width n cells))) (k * width) out
+Inv-loop words cells n columns sets out₀ k₀ at₀ out k at =
+    (k ≤ length sets) × (at ≡ k * length words)
+    × Pasted out₀ 0 (flatten (joinedRows words (rowsIn (length words) n cells))) (k * length words) out
 
 abbrev μ-loop : tie.MeasureT-loop
-μ-loop cells n width columns sets out₀ k₀ at₀ out k at = length sets - k
+μ-loop words cells n columns sets out₀ k₀ at₀ out k at = length sets - k
 
 loop-holds : tie.Need-loop-holds Inv-loop μ-loop
 loop-holds c =
-    let s = c .before .before .before .before in
+    let s = c .before .before .before .before .before in
     let a = s .args in (
       search needs,
-      sym (zero-mul (a .width)),
+      sym (zero-mul (length (a .column-words .now))),
       joins-none (s .pre .0) (s .pre .1) (a .out .now) (s .pre .2),
     )
 
@@ -39,19 +40,19 @@ shared-slice-read-join-set c = search needs
 
 join-set-requires : tie.Need-join-set-requires Inv-loop μ-loop
 join-set-requires c κs =
-    let s = c .before .before .before .before .before .before .before .before in
+    let s = c .before .before .before .before .before .before .before .before .before in
     let a = s .args in
     let l = c .before .before .before .loop in (
       s .pre .0 .filled .size,
-      columns-within (a .width) (a .n) (a .cells .now) (a .columns .now) (s .pre .0 .fits) (s .pre .0 .filled),
-      omega (arith, l .inv .2 .size, l .inv .1, s .pre .2, row-fits (a .width) (length (a .sets .now)) (l .k) (search needs)),
+      columns-within (length (a .column-words .now)) (a .n) (a .cells .now) (a .columns .now) (s .pre .0 .fits) (s .pre .0 .filled),
+      omega (arith, l .inv .2 .size, l .inv .1, s .pre .2, row-fits (length (a .column-words .now)) (length (a .sets .now)) (l .k) (search needs)),
     )
 
 add-at : tie.Need-add-at Inv-loop μ-loop
 add-at c =
-    let s = c .before .before .before .before .before .before .before .before .before .before .before in
+    let s = c .before .before .before .before .before .before .before .before .before .before .before .before in
     let l = c .before .before .before .before .before .before .loop in
-    omega (arith, l .inv .1, s .pre .2, row-fits (s .args .width) (length (s .args .sets .now)) (l .k) (search needs))
+    omega (arith, l .inv .1, s .pre .2, row-fits (length (s .args .column-words .now)) (length (s .args .sets .now)) (l .k) (search needs))
 
 add-k : tie.Need-add-k Inv-loop μ-loop
 add-k c = search needs
@@ -61,12 +62,12 @@ loop-less c = search needs
 
 loop-again : tie.Need-loop-again Inv-loop μ-loop
 loop-again c =
-    let s = c .before .before .before .before .before .before .before .before .before .before .before in
+    let s = c .before .before .before .before .before .before .before .before .before .before .before .before in
     let a = s .args in
     let l = c .before .before .before .before .before .before .loop in
     let j = c .before .before .join-set in (
       search needs,
-      omega (arith, l .inv .1, add-mul (l .k) 1 (a .width), one-mul (a .width)),
+      omega (arith, l .inv .1, add-mul (l .k) 1 (length (a .column-words .now)), one-mul (length (a .column-words .now))),
       joins-turn (s .pre .0) (s .pre .1) (a .out .now) (s .pre .2) (l .k) (l .at) (l .out) _ (search needs) (l .inv .1) (l .inv .2)
           (j .ensures),
     )
@@ -76,7 +77,7 @@ same-length c = c .before .loop .inv .2 .size
 
 returns : tie.Need-returns Inv-loop μ-loop
 returns c =
-    let s = c .before .before .before .before .before .before in
+    let s = c .before .before .before .before .before .before .before in
     let a = s .args in
     let l = c .before .loop in
     joins-end (s .pre .0) (s .pre .1) (a .out .now) (s .pre .2) (l .k) (l .out) (search needs) (l .inv .2)

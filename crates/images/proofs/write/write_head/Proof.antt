@@ -1,5 +1,6 @@
 -- The header stands at word 0, and the column words follow it.
 use mathlib.Core.Path.{_∙_, ap}
+use native.Mathlib.Omega.{arith}
 use lib.ListN.{set, length-set}
 use Rattle.images.proofs.Writing.{head-written}
 use borrow.Author.Needs.{needs}
@@ -18,8 +19,11 @@ header-word-requires c κs = search needs
 slice-write-buffer : tie.Need-slice-write-buffer
 slice-write-buffer c = search needs
 
-write-ids-requires : tie.Need-write-ids-requires
-write-ids-requires c κs = search needs
+write-words-requires : tie.Need-write-words-requires
+write-words-requires c κs =
+    let w = c .before in
+    let q = w .before .before .before in
+    (q .pre .0, omega (arith, q .pre .1, length-set (q .args .buffer .now) 0 (w .header-word .result)))
 
 same-length : tie.Need-same-length
 same-length c =
@@ -32,9 +36,9 @@ returns c =
     let q = w .before .before .before in
     let s = q .args in
     let e = ap (set (s .buffer .now) 0) (w .header-word .ensures) in
-    head-written (s .buffer .now) _ _ (s .ids .now) _ (s .n) (q .pre .0 .short) (q .pre .0 .room) e (c .before .before .write-ids .ensures)
+    head-written (s .buffer .now) _ _ (s .column-words .now) _ (s .n) (q .pre .0) (q .pre .1) e (c .before .before .write-words .ensures)
 
 pub write-head-spec : {M : Type 1} → statement M
 write-head-spec =
     tie.close
-    (tie.spec cast-header-word cast-header-word-2 header-word-requires slice-write-buffer write-ids-requires same-length returns)
+    (tie.spec cast-header-word cast-header-word-2 header-word-requires slice-write-buffer write-words-requires same-length returns)

@@ -12,7 +12,8 @@ write-head-requires : tie.Need-write-head-requires
 write-head-requires c κs =
     let p = c .before .before .before .before .before .pre in
     let k = p .0 in (
-      record { short = k .short; small = k .small; room = omega (arith, p .1) },
+      k .short,
+      omega (arith, p .1),
       omega (arith, k .few-rows),
       omega (arith, k .few-columns),
     )

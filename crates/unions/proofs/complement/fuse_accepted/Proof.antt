@@ -1,6 +1,6 @@
 -- The table in work holds T: what the questions from 9 on leave is the promise.
 use mathlib.Core.Path.{refl}
-use Rattle.definitions.specs.OuterUnion.{unionIds, unionRows}
+use Rattle.definitions.specs.OuterUnion.{unionColumns, unionRows}
 use Rattle.tables.specs.declared.Table.{Table}
 use Rattle.tables.specs.Table.{TableOf}
 use Rattle.tables.proofs.UnionLaws.{filled-table}
@@ -10,7 +10,7 @@ use Rattle.unions.proofs.complement.fuse_accepted.Statement.{statement}
 use Rattle.unions.proofs.complement.fuse_accepted.Tie as tie
 
 new-requires : tie.Need-new-requires
-new-requires c κs = let f = c .before .before .before .before .before .pre in (f .few, f .ids .differ)
+new-requires c κs = search needs
 
 union-rows-requires : tie.Need-union-rows-requires
 union-rows-requires c κs = search needs
@@ -24,11 +24,11 @@ module _ (c : tie.After-union-rows) where
       let new = c .before .before .new .result in
       record { cells = c .union-rows .last .1 .1 .1 .0; ids = new .ids; rows = c .union-rows .result; columns = new .columns }
 
-  held : TableOf work (unionIds (start .args .a .now) (start .args .b .now)) (unionRows (start .args .a .now) (start .args .b .now))
+  held : TableOf work (unionColumns (start .args .a .now) (start .args .b .now)) (unionRows (start .args .a .now) (start .args .b .now))
   held = let n = c .before .before .new in filled-table (start .pre) (n .result) (n .ensures) refl refl (c .union-rows .ensures)
 
 fuse-table-requires : tie.Need-fuse-table-requires
-fuse-table-requires c κs = let t = c .before .before .before .before .before .before .before in work-table (start t .pre) (held t)
+fuse-table-requires c κs = let t = c .before .before .before .before .before .before .before in work-table (held t)
 
 same-length : tie.Need-same-length
 same-length c = search needs

@@ -6,35 +6,50 @@ use lib.ListN.{length}
 use lib.Seq.{length-take-le}
 use Rattle.definitions.specs.Limits.{maxSets}
 use Rattle.patterns.proofs.FilledRows.{columns-none}
-use Rattle.unions.proofs.Fusing.{work-listed, many-fused, few-fused}
+use Rattle.unions.proofs.Fusing.{in-use, work-rows, work-listed, many-fused, few-fused}
 use borrow.Author.Needs.{needs}
 use Rattle.unions.proofs.fused.fuse_table.Statement.{statement}
 use Rattle.unions.proofs.fused.fuse_table.Tie as tie
+
+-- the function's entry, from where the columns' words are made
+module _ (c : tie.After-columns) where
+  abbrev start : tie.Start
+  start = c .before .before .before .before .before .before
+
+slice-aggregate-column-words : tie.Need-slice-aggregate-column-words
+slice-aggregate-column-words c = sym (in-use (c .before .before .before .before .before .pre))
 
 slice-aggregate-fill-columns : tie.Need-slice-aggregate-fill-columns
 slice-aggregate-fill-columns c = search needs
 
 fill-columns-requires : tie.Need-fill-columns-requires
 fill-columns-requires c κs =
-    let s = c .before .before .before .before .before in
-    let w = s .pre in
-    (w .few-rows, w .within, columns-none (s .args .width) (w .few-columns))
+    let w = start c .pre in
+    (w .few-rows, w .within, columns-none (start c .args .width) (w .few-columns))
 
 slice-aggregate-list-sets : tie.Need-slice-aggregate-list-sets
 slice-aggregate-list-sets c = search needs
 
 list-sets-requires : tie.Need-list-sets-requires
 list-sets-requires c κs =
-    let w = c .before .before .before .before .before .before .before .before .before .pre in
-    (record { few = w .few-rows; fits = w .within; filled = c .before .before .before .fill-columns .ensures }, search needs)
+    let f = c .before .before .before in
+    let w = start (f .before) .pre in
+    (work-rows w (f .fill-columns .ensures), omega (arith, in-use w, w .few-columns), search needs)
+
+-- ---- the sets are listed
+
+module _ (c : tie.After-list-sets) where
+  abbrev filled : tie.After-fill-columns
+  filled = c .before .before .before .before
+
+  abbrev entry : tie.Start
+  entry = start (filled .before)
 
 returns : tie.Need-returns
 returns c =
     let l = c .before in
-    let s = l .before .before .before .before .before .before .before .before .before .before in
+    let s = entry l in
     many-fused (s .pre) (l .list-sets .ensures .1) (s .args .table .now) (s .args .sets .now) (c .if1 .taken)
-
--- ---- the sets are listed
 
 module _ (c : tie.Else1) where
   few-sets : c .before .list-sets .result ≤ maxSets
@@ -53,19 +68,13 @@ slice-aggregate-all c =
     sym (length-take-le (l .result) (l .last .1 .1 .1 .1 .0) (room (c .before)))
 
 slice-aggregate-fuse-sets : tie.Need-slice-aggregate-fuse-sets
-slice-aggregate-fuse-sets c =
-    let s = c .before .before .before .before .before .before .before .before .before .before .before .before .before in
-    sym (length-take-le (s .args .width) (s .args .ids .now) (s .pre .within-ids))
-
-slice-aggregate-fuse-sets-2 : tie.Need-slice-aggregate-fuse-sets-2
-slice-aggregate-fuse-sets-2 c = search needs
+slice-aggregate-fuse-sets c = search needs
 
 fuse-sets-requires : tie.Need-fuse-sets-requires
 fuse-sets-requires c κs =
-    let q = c .before .before .before .before .before in
+    let q = c .before .before .before .before in
     let l = q .before in
-    let f = l .before .before .before .before .fill-columns .ensures in
-    work-listed (l .before .before .before .before .before .before .before .before .before .before .pre) (l .list-sets .ensures .1) (few-sets q) (room q) _ f
+    work-listed (entry l .pre) (l .list-sets .ensures .1) (few-sets q) (room q) (filled l .fill-columns .ensures)
 
 same-length : tie.Need-same-length
 same-length c = search needs
@@ -76,14 +85,14 @@ same-length-2 c = search needs
 returns-2 : tie.Need-returns-2
 returns-2 c =
     let w = c .before .before .before .before in
-    let q = w .before .before .before .before .before .before in
+    let q = w .before .before .before .before .before in
     let l = q .before in
-    let s = l .before .before .before .before .before .before .before .before .before .before in
+    let s = entry l in
     few-fused (s .pre) (l .list-sets .ensures .1) (s .args .table .now) (s .args .sets .now) (few-sets q) (w .fuse-sets .ensures)
 
 pub fuse-table-spec : {M : Type 1} → statement M
 fuse-table-spec =
     tie.close
-    (tie.spec slice-aggregate-fill-columns fill-columns-requires slice-aggregate-list-sets list-sets-requires returns
-    array-share-prefix-list slice-aggregate-all slice-aggregate-fuse-sets slice-aggregate-fuse-sets-2 fuse-sets-requires
+    (tie.spec slice-aggregate-column-words slice-aggregate-fill-columns fill-columns-requires slice-aggregate-list-sets
+    list-sets-requires returns array-share-prefix-list slice-aggregate-all slice-aggregate-fuse-sets fuse-sets-requires
     same-length same-length-2 returns-2)

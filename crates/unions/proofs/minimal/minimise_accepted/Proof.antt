@@ -3,7 +3,7 @@ use mathlib.Core.Path.{refl, _∙_, ap}
 use mathlib.Core.List.{[], _∷_}
 use Prim.Native.Nat.{ℕ}
 use native.Mathlib.Omega.{arith}
-use Rattle.definitions.specs.OuterUnion.{unionIds, unionRows}
+use Rattle.definitions.specs.OuterUnion.{unionColumns, unionRows}
 use Rattle.definitions.specs.MinimumUnion.{minimumRows, pairsTried}
 use Rattle.definitions.specs.Calls.{minimumImage, minimumOutcome}
 use Rattle.tables.specs.declared.Table.{Table}
@@ -16,7 +16,7 @@ use Rattle.unions.proofs.minimal.minimise_accepted.Statement.{statement
 use Rattle.unions.proofs.minimal.minimise_accepted.Tie as tie
 
 new-requires : tie.Need-new-requires
-new-requires c κs = let f = c .before .before .before .before .pre in (f .few, f .ids .differ)
+new-requires c κs = search needs
 
 union-rows-requires : tie.Need-union-rows-requires
 union-rows-requires c κs = search needs
@@ -33,7 +33,7 @@ module _ (c : tie.After-kept) where
       let new = u .before .before .new .result in
       record { cells = u .union-rows .last .1 .1 .1 .0; ids = new .ids; rows = u .union-rows .result; columns = new .columns }
 
-  held : TableOf work (unionIds (start .args .a .now) (start .args .b .now)) (unionRows (start .args .a .now) (start .args .b .now))
+  held : TableOf work (unionColumns (start .args .a .now) (start .args .b .now)) (unionRows (start .args .a .now) (start .args .b .now))
   held =
       let u = c .before .before .before .before in
       let n = u .before .before .new in
@@ -55,14 +55,14 @@ module _ (c : tie.After-kept2) where
   made = c .before .before
 
   result : (let s = start made .args in let o = c .before .minimum-rows in
-      Result (unionIds (s .a .now) (s .b .now)) (minimumRows (unionRows (s .a .now) (s .b .now))) (work made) (o .last .1 .1 .1 .0)
+      Result (unionColumns (s .a .now) (s .b .now)) (minimumRows (unionRows (s .a .now) (s .b .now))) (work made) (o .last .1 .1 .1 .0)
       (o .result .rows))
   result =
       let o = c .before .minimum-rows .ensures in
       let h = held made in
       let r = h .few-rows in
       let m = o .count in
-      minimum-result (start made .pre) (search needs) h o
+      minimum-result (start made .args .a .now) (start made .args .b .now) (search needs) h o
 
 slice-aggregate-put-image : tie.Need-slice-aggregate-put-image
 slice-aggregate-put-image c = search needs

@@ -2,7 +2,7 @@
 use mathlib.Core.Path.{refl}
 use mathlib.Core.List.{[]}
 use native.Mathlib.Omega.{arith}
-use Rattle.definitions.specs.OuterUnion.{unionIds, unionRows}
+use Rattle.definitions.specs.OuterUnion.{unionColumns, unionRows}
 use Rattle.definitions.specs.Calls.{outerImage, outerOutcome}
 use Rattle.tables.specs.declared.Table.{Table}
 use Rattle.tables.specs.Table.{bothRows, TableOf}
@@ -14,7 +14,7 @@ use Rattle.unions.proofs.outer.unite_accepted.Statement.{statement}
 use Rattle.unions.proofs.outer.unite_accepted.Tie as tie
 
 new-requires : tie.Need-new-requires
-new-requires c κs = let f = c .before .before .before .before .pre in (f .few, f .ids .differ)
+new-requires c κs = search needs
 
 widen-both-requires : tie.Need-widen-both-requires
 widen-both-requires c κs = (c .before .before .before .before .before .before .pre, c .before .new .ensures .empty)
@@ -31,7 +31,7 @@ module _ (c : tie.After-spare) where
       let new = u .before .before .new .result in
       record { cells = u .widen-both .last .1 .1 .1 .0; ids = new .ids; rows = u .widen-both .result; columns = new .columns }
 
-  held : TableOf work (unionIds (start .args .a .now) (start .args .b .now)) (bothRows (start .args .a .now) (start .args .b .now))
+  held : TableOf work (unionColumns (start .args .a .now) (start .args .b .now)) (bothRows (start .args .a .now) (start .args .b .now))
   held =
       let u = c .before .before .before .before .before in
       let n = u .before .before .new in
@@ -55,13 +55,13 @@ module _ (c : tie.After-spare2) where
   made = c .before .before .before
 
   result : (let s = start made .args in let o = c .before .before .order-rows in
-      Result (unionIds (s .a .now) (s .b .now)) (unionRows (s .a .now) (s .b .now)) (work made) (o .last .1 .1 .1 .0) (o .result))
+      Result (unionColumns (s .a .now) (s .b .now)) (unionRows (s .a .now) (s .b .now)) (work made) (o .last .1 .1 .1 .0) (o .result))
   result =
       let o = c .before .before .order-rows .ensures in
       let h = held made in
       let r = h .few-rows in
       let m = o .0 in
-      outer-result (start made .pre) (search needs) h m (o .1)
+      outer-result (start made .args .a .now) (start made .args .b .now) (search needs) h m (o .1)
 
 slice-aggregate-put-image : tie.Need-slice-aggregate-put-image
 slice-aggregate-put-image c = search needs
