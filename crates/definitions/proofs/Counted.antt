@@ -10,15 +10,11 @@ use borrow.Author.Tests.{not-true}
 use Rattle.definitions.specs.Lists.{any}
 use Rattle.definitions.specs.Word.{markOf}
 use Rattle.definitions.specs.ComplementUnion.{agree, share, markedCells, countedCells}
-use Rattle.definitions.specs.Claims.{Filled, CellAgrees, Counts, SharedCounted}
+use Rattle.definitions.specs.Claims.{Filled, CellAgrees, Counts, countsColumn, SharedCounted}
 use Rattle.definitions.proofs.Bools.{bool-cases, or-cases, or-l, or-r}
 use Rattle.definitions.proofs.Rows.{agree-at, agree-of, share-is}
 
--- column k counts
-abbrev pub counts : List ℕ → ℕ → Bool
-counts columns k = markOf (getD columns k 0) || not (any markOf columns)
-
-pub counts-is : (columns : List ℕ) (k : ℕ) → (counts columns k ≡ true) ↔ Counts columns k
+pub counts-is : (columns : List ℕ) (k : ℕ) → (countsColumn columns k ≡ true) ↔ Counts columns k
 counts-is columns k =
     let mark = markOf (getD columns k 0) in
     let some = any markOf columns in (
@@ -47,7 +43,7 @@ marked-length (w ∷ columns) [] h = refl
 marked-length (w ∷ columns) (x ∷ row) h = ap suc (marked-length columns row (le-of-suc-le-suc h))
 
 module _ (columns : List ℕ) where
-  pub counted-at : (row : List ℕ) (k : ℕ) → getD (countedCells columns row) k 0 ≡ cond (counts columns k) (getD row k 0) 0
+  pub counted-at : (row : List ℕ) (k : ℕ) → getD (countedCells columns row) k 0 ≡ cond (countsColumn columns k) (getD row k 0) 0
   unfolding countedCells
   counted-at row k =
       let mark = markOf (getD columns k 0) in
@@ -73,8 +69,8 @@ module _ (columns : List ℕ) where
   agree-counted s t e =
       agree-of (countedCells columns s) (countedCells columns t) (λ k.
       subst (λ (x : ℕ). CellAgrees x (getD (countedCells columns t) k 0)) (sym (counted-at s k))
-      (subst (λ (y : ℕ). CellAgrees (cond (counts columns k) (getD s k 0) 0) y) (sym (counted-at t k))
-      (cells (counts columns k) (getD s k 0) (getD t k 0) (agree-at s t e k))))
+      (subst (λ (y : ℕ). CellAgrees (cond (countsColumn columns k) (getD s k 0) 0) y) (sym (counted-at t k))
+      (cells (countsColumn columns k) (getD s k 0) (getD t k 0) (agree-at s t e k))))
     where
       cells : (b : Bool) (x y : ℕ) → CellAgrees x y → CellAgrees (cond b x 0) (cond b y 0)
       cells true x y h = h
@@ -86,10 +82,10 @@ module _ (columns : List ℕ) where
     λ e.
         let i = share-is (countedCells columns s) (countedCells columns t) .0 e in
         let k = i .0 in
-        let f : Filled (cond (counts columns k) (getD s k 0) 0) = subst Filled (counted-at s k) (i .1) in
+        let f : Filled (cond (countsColumn columns k) (getD s k 0) 0) = subst Filled (counted-at s k) (i .1) in
         let same = sym (counted-at s k) ∙ i .2 ∙ counted-at t k in
-        let c = cell-counted (counts columns k) (getD s k 0) f in
-        let d = cell-counted (counts columns k) (getD t k 0) (λ q. f (same ∙ q)) in
+        let c = cell-counted (countsColumn columns k) (getD s k 0) f in
+        let d = cell-counted (countsColumn columns k) (getD t k 0) (λ q. f (same ∙ q)) in
         (k, counts-is columns k .0 (c .0), (λ q. f (c .1 ∙ q)), sym (c .1) ∙ same ∙ d .1),
     λ i.
         let k = i .0 in

@@ -7,18 +7,20 @@ use Prim.Native.Nat.{ℕ, _/_, _%_, _^_}
 use native.Mathlib.Nat.{zero-add, div-div-eq-div-mul}
 use native.Mathlib.Omega.{arith}
 use lib.Dec.{eqb}
+use lib.ListN.{length, getD}
 use borrow.Author.Tests.{eqb-true, eqb-false, eq-eqb}
 use Rattle.definitions.specs.Lists.{all, any}
 use Rattle.definitions.specs.Word.{kindOf, idOf, markOf, wordOf, columnSpare, columnWord}
 use Rattle.definitions.specs.Image.{columnWords, imageOf, isColumn}
 use Rattle.definitions.specs.OuterUnion.{unionIds, marks, unionColumns, unionRows}
 use Rattle.definitions.specs.MinimumUnion.{minimumRows}
-use Rattle.definitions.specs.ComplementUnion.{countedCells, complement}
+use Rattle.definitions.specs.ComplementUnion.{countedCells, complement, complementAt, unionSets}
 use Rattle.definitions.specs.SetList.{setList}
 use Rattle.definitions.specs.Questions.{columnsRight}
 use Rattle.definitions.specs.Calls.{pairOutcome, outerImage, minimumImage, fusedTable, fusedImage, setsOutcome, complementOutcome}
-use Rattle.definitions.specs.Unmarked.{Unmarked, columnsBefore, wordsBefore, complementBefore, AsBefore}
+use Rattle.definitions.specs.Unmarked.{Unmarked, columnsBefore, wordsBefore, complementBefore, setsBefore, AsBefore}
 use Rattle.definitions.proofs.Bools.{bool-eq, and-no-r, or-no, or-no-l, or-no-r}
+use Rattle.definitions.proofs.Sets.{listed-ext}
 use Rattle.definitions.proofs.UnionColumns.{any-marked}
 
 -- ---- column words without the mark
@@ -84,6 +86,13 @@ module _ (a b : List ℕ) (first : Unmarked a) (second : Unmarked b) where
   words-unmarked : any markOf (wordsBefore a b) ≡ false
   words-unmarked = ap (any markOf) (sym columns-before) ∙ any-marked a b ∙ or-no first second
 
+  sets-before : unionSets (wordsBefore a b) (unionRows a b) ≡ setsBefore (unionRows a b)
+  unfolding unionSets
+  sets-before =
+      listed-ext (complementAt (wordsBefore a b) (unionRows a b))
+      (λ j k. complementBefore (getD (unionRows a b) j []) (getD (unionRows a b) k [])) (length (unionRows a b))
+      (λ j k h g. unmarked-condition (wordsBefore a b) words-unmarked (getD (unionRows a b) j []) (getD (unionRows a b) k []))
+
   pub unmarked-as-before : AsBefore a b
   unfolding outerImage minimumImage fusedImage complementOutcome
   unmarked-as-before = record {
@@ -95,4 +104,5 @@ module _ (a b : List ℕ) (first : Unmarked a) (second : Unmarked b) where
     list = ap (λ (l : List ℕ). setList l (unionRows a b)) columns-before;
     answer = λ room setRoom. ap (λ (l : List ℕ). pairOutcome a b (setsOutcome l (unionRows a b) room setRoom)) columns-before;
     condition = unmarked-condition (wordsBefore a b) words-unmarked;
+    sets = sets-before;
   }

@@ -1,7 +1,7 @@
 -- The terms in which theorems over the definitions are stated: what a yes to every question is, when a call is done, and what the tests on
 -- rows and sets mean.
 use mathlib.Core.Path.{_≡_}
-use mathlib.Core.Bool.{Bool, true, false, cond}
+use mathlib.Core.Bool.{Bool, true, false, cond, not, _||_}
 use mathlib.Core.Logic.{_⊎_}
 use mathlib.Core.List.{List, [], _∷_, map}
 use Prim.Native.Nat.{ℕ, _+_, _≤_, _<_}
@@ -90,6 +90,10 @@ MarkedIn image id = (w : ℕ) × Member w (columnWords image) × (idOf w ≡ id)
 -- "If any is marked, condition (3) of complementing counts marked columns only; if none is, any column counts"
 abbrev pub Counts : List ℕ → ℕ → Type 0
 Counts columns k = (markOf (getD columns k 0) ≡ true) ⊎ (any markOf columns ≡ false)
+
+-- the same as a test
+abbrev pub countsColumn : List ℕ → ℕ → Bool
+countsColumn columns k = markOf (getD columns k 0) || not (any markOf columns)
 
 -- a column that counts and is filled in both with the same number
 abbrev pub SharedCounted : List ℕ → List ℕ → List ℕ → Type 0

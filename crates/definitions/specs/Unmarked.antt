@@ -1,15 +1,16 @@
 -- Request A2, "if none is, any column counts as before": two tables without a marked column get what document 01 alone says.
 use mathlib.Core.Path.{_≡_}
 use mathlib.Core.Bool.{Bool, false, not, _&&_}
-use mathlib.Core.List.{List, map}
+use mathlib.Core.List.{List, [], map}
 use Prim.Native.Nat.{ℕ, _/_, _%_, _^_}
 use lib.Dec.{eqb}
+use lib.ListN.{length, getD}
 use Rattle.definitions.specs.Lists.{all, any}
 use Rattle.definitions.specs.Word.{kindOf, markOf, wordOf}
 use Rattle.definitions.specs.Image.{columnWords, imageOf}
 use Rattle.definitions.specs.OuterUnion.{unionIds, unionColumns, unionRows}
 use Rattle.definitions.specs.MinimumUnion.{subsumes, minimumRows}
-use Rattle.definitions.specs.ComplementUnion.{sameRow, agree, share, complement}
+use Rattle.definitions.specs.ComplementUnion.{sameRow, agree, share, complement, maximalSets, unionSets}
 use Rattle.definitions.specs.SetList.{setList}
 use Rattle.definitions.specs.Questions.{columnsRight}
 use Rattle.definitions.specs.Calls.{pairOutcome, outerImage, minimumImage, fusedTable, fusedImage, setsOutcome, complementOutcome}
@@ -30,6 +31,10 @@ wordsBefore a b = map (wordOf 2) (unionIds a b)
 abbrev pub complementBefore : List ℕ → List ℕ → Bool
 complementBefore s t = agree s t && (not (sameRow s t) && not (subsumes s t) && not (subsumes t s)) && share s t
 
+-- document 01's maximal complementing sets of T
+abbrev pub setsBefore : List (List ℕ) → List (List Bool)
+setsBefore rows = maximalSets (λ j k. complementBefore (getD rows j []) (getD rows k [])) (length rows)
+
 pub record AsBefore (a b : List ℕ) : Type 0 where
   -- the same images pass question 5
   pub first-columns : columnsRight a ≡ columnsBefore a
@@ -42,5 +47,6 @@ pub record AsBefore (a b : List ℕ) : Type 0 where
   -- and so is complement union's answer; those of the other two look at their images alone
   pub answer : (room setRoom : ℕ) → complementOutcome a b room setRoom
       ≡ pairOutcome a b (setsOutcome (wordsBefore a b) (unionRows a b) room setRoom)
-  -- with these words, rows complement each other as document 01 says
+  -- with these words, rows complement each other as document 01 says, and the sets are its sets
   pub condition : (s t : List ℕ) → complement (wordsBefore a b) s t ≡ complementBefore s t
+  pub sets : unionSets (wordsBefore a b) (unionRows a b) ≡ setsBefore (unionRows a b)

@@ -10,7 +10,8 @@ use lib.Seq.{getD-set-same, getD-set-other}
 use borrow.Author.Count.{below-more}
 use Rattle.definitions.specs.Lists.{any}
 use Rattle.definitions.specs.Word.{markOf}
-use Rattle.fusing.specs.Graph.{countsColumn, CountedColumns}
+use Rattle.definitions.specs.Claims.{countsColumn}
+use Rattle.fusing.specs.Graph.{CountedColumns}
 
 -- the word of a column, or one that holds no row
 abbrev pub countedWord : List ℕ → List ℕ → ℕ → ℕ

@@ -13,7 +13,8 @@ use Rattle.definitions.specs.Image.{rowsIn}
 use Rattle.definitions.specs.Word.{isFilled}
 use Rattle.definitions.specs.ComplementUnion.{agree, countedCells, complement}
 use Rattle.definitions.proofs.Patterns.{only}
-use Rattle.definitions.proofs.Counted.{counts, counted-at, counted-length}
+use Rattle.definitions.specs.Claims.{countsColumn}
+use Rattle.definitions.proofs.Counted.{counted-at, counted-length}
 use Rattle.lists.proofs.Walks.{next, end}
 use Rattle.definitions.proofs.Images.{rows-length}
 use Rattle.lists.proofs.Flat.{rows-at}
@@ -105,20 +106,20 @@ module _ (words s t : List ℕ) (k : ℕ) (same : length s ≡ length t) (wide :
   -- the next column, whose words hold what the cells say
   module _ (i shared above within : ℕ) (p : Passed words s t k i shared above within) (filled counted empty : ℕ) (more : i < length s)
       (fits : filled < 2 ^ wordBits) (fits-empty : empty < 2 ^ wordBits) (f : has filled k ≡ isFilled (getD t i 0))
-      (n : has counted k ≡ (counts words i && isFilled (getD t i 0))) (e : has empty k ≡ not (isFilled (getD s i 0))) where
+      (n : has counted k ≡ (countsColumn words i && isFilled (getD t i 0))) (e : has empty k ≡ not (isFilled (getD s i 0))) where
     shared-more : (has (bitOr shared (bitAnd counted (2 ^ wordBits - 1 - empty))) k || bothIn (drop (i + 1) u) (drop (i + 1) v)) ≡ bothIn u v
     unfolding both bothIn
     shared-more =
         let rest = bothIn (drop (i + 1) u) (drop (i + 1) v) in
-        let x : isFilled (getD u i 0) ≡ (counts words i && isFilled (getD s i 0)) =
-        ap isFilled (counted-at words s i) ∙ filled-counted (counts words i) (getD s i 0) in
-        let y : isFilled (getD v i 0) ≡ (counts words i && isFilled (getD t i 0)) =
-        ap isFilled (counted-at words t i) ∙ filled-counted (counts words i) (getD t i 0) in
+        let x : isFilled (getD u i 0) ≡ (countsColumn words i && isFilled (getD s i 0)) =
+        ap isFilled (counted-at words s i) ∙ filled-counted (countsColumn words i) (getD s i 0) in
+        let y : isFilled (getD v i 0) ≡ (countsColumn words i && isFilled (getD t i 0)) =
+        ap isFilled (counted-at words t i) ∙ filled-counted (countsColumn words i) (getD t i 0) in
         ap (λ (b : Bool). b || rest)
         (has-or shared (bitAnd counted (2 ^ wordBits - 1 - empty)) k
         ∙ ap (λ (b : Bool). has shared k || b)
         (has-both counted (2 ^ wordBits - 1 - empty) k ∙ ap₂ (λ (a b : Bool). a && b) n (has-lacked wordBits empty k fits-empty small ∙ ap not e)))
-        ∙ share-case (has shared k) (counts words i) (isFilled (getD s i 0)) (isFilled (getD t i 0)) rest
+        ∙ share-case (has shared k) (countsColumn words i) (isFilled (getD s i 0)) (isFilled (getD t i 0)) rest
         ∙ ap₂ (λ (a b : Bool). has shared k || ((a && b) || rest)) (sym x) (sym y)
         ∙ ap (λ (b : Bool). has shared k || b)
         (sym (ap₂ bothIn (next 0 u i (omega (arith, u-length))) (next 0 v i (omega (arith, v-length)))))
@@ -208,8 +209,8 @@ module _ (row columns counted : List ℕ) where
         passed-more words row (getD rows k []) k (sym (seen .wide k h ∙ wide)) (sym wide) small i shared above within
         (inv words rows wide seen k h) filled counts-filled empty more fits fe
         (ap (λ (w : ℕ). has w k) ef ∙ held)
-        (ap (λ (w : ℕ). has w k) (ec ∙ seen .counting .each i here) ∙ has-counted (counts words i) (getD columns i 0) k
-        ∙ ap (λ (b : Bool). counts words i && b) held)
+        (ap (λ (w : ℕ). has w k) (ec ∙ seen .counting .each i here) ∙ has-counted (countsColumn words i) (getD columns i 0) k
+        ∙ ap (λ (b : Bool). countsColumn words i && b) held)
         (ap (λ (w : ℕ). has w k) ee ∙ has-blank x k small)
 
     pub passed-end : length row ≤ i → above < 2 ^ wordBits → within < 2 ^ wordBits → PassedTo row columns counted i shared above within

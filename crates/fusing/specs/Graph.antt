@@ -1,14 +1,13 @@
 -- The graph of T: a word for each row, whose bit k says that row k complements it. It is found in two steps: rows that cross, and of these
 -- the ones that agree. `words` are the union's column words: their marks say which columns condition (3) counts.
 use mathlib.Core.Path.{_≡_}
-use mathlib.Core.Bool.{Bool, true, false, cond, not, _&&_, _||_}
+use mathlib.Core.Bool.{true, false, cond, not, _&&_, _||_}
 use mathlib.Core.List.{List, []}
 use Prim.Native.Nat.{ℕ, _≤_, _<_}
 use lib.ListN.{length, getD}
 use Rattle.definitions.specs.Limits.{maxUnionRows}
-use Rattle.definitions.specs.Lists.{any}
-use Rattle.definitions.specs.Word.{markOf}
 use Rattle.definitions.specs.ComplementUnion.{agree, complement, complementAt}
+use Rattle.definitions.specs.Claims.{countsColumn}
 use Rattle.bitsets.specs.Bits.{wordBits, has}
 use Rattle.cliques.specs.Graph.{adjacent, Graph}
 use Rattle.patterns.specs.Columns.{ColumnsOf}
@@ -19,10 +18,6 @@ pub record GraphOf (words : List ℕ) (rows : List (List ℕ)) (neighbours : Lis
   pub adjacent-as : (j k : ℕ) → j < length rows → k < length rows → adjacent neighbours j k ≡ complementAt words rows j k
 
 -- ---- the columns that condition (3) counts
-
--- the column is marked, or none is
-abbrev pub countsColumn : List ℕ → ℕ → Bool
-countsColumn words c = markOf (getD words c 0) || not (any markOf words)
 
 -- for each column that counts its word of `columns`, and for another a word that holds no row
 pub record CountedColumns (words columns counted : List ℕ) : Type 0 where
