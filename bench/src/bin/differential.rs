@@ -3,8 +3,8 @@
 //! Runs the three calls on generated inputs with the reference, with the
 //! product (feature `product`) and, on a part of the inputs, with the brute
 //! force implementation, and compares the answers and every word of every
-//! buffer, the words around the lent buffers too. Half of the pairs have marked
-//! columns. For accepted pairs it also runs complement union on another pair
+//! buffer, the words around the lent buffers too. Marks are put on half of
+//! the pairs. For accepted pairs it also runs complement union on another pair
 //! with the same union columns, marks and T.
 //! Each case also reads a generated set list, sound in half of the cases, and
 //! the list that complement union made, if it was done: this has to give the

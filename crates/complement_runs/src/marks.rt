@@ -32,7 +32,7 @@ pub(crate) fn evidence() {
     complement(
         b"a marked number shared, and others",
         b"a23| 12- 14-",
-        b"1234| 1--5 --36",
+        b"1234| 1--5 -2-6",
     );
     complement(
         b"marked by both, at other places",
@@ -40,5 +40,9 @@ pub(crate) fn evidence() {
         b"3ba| 51- 6-2",
     );
     complement(b"marked, no rows", b"ab|", b"bc|");
-    complement(b"a marked column that one table lacks", b"ab| 1-", b"2| 2");
+    complement(
+        b"a marked column that one table lacks",
+        b"a2| 12",
+        b"23| 25",
+    );
 }

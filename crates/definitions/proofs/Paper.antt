@@ -49,25 +49,25 @@ three = column 7 ∷ column 8 ∷ column 9 ∷ []
 abbrev four : List ℕ
 four = column 6 ∷ column 7 ∷ column 8 ∷ column 9 ∷ []
 
--- request A2: the devices in column 10 have the guest in column 13, and so has the interrupt in column 12; column 11 is empty
+-- request A2: the devices in column 10 have the guest in column 13, and so has the address in column 12; column 11, the interrupt, is empty
 abbrev devices : List (List ℕ)
 devices = (# 7 ∷ ∅ ∷ # 2 ∷ []) ∷ (# 8 ∷ ∅ ∷ # 2 ∷ []) ∷ []
 
-abbrev interrupts : List (List ℕ)
-interrupts = (# 41 ∷ # 2 ∷ []) ∷ []
+abbrev addresses : List (List ℕ)
+addresses = (# 41 ∷ # 2 ∷ []) ∷ []
 
 abbrev deviceUnion : List (List ℕ)
 deviceUnion = (∅ ∷ ∅ ∷ # 41 ∷ # 2 ∷ []) ∷ (# 7 ∷ ∅ ∷ ∅ ∷ # 2 ∷ []) ∷ (# 8 ∷ ∅ ∷ ∅ ∷ # 2 ∷ []) ∷ []
 
--- the interrupt joined to each device
+-- the address joined to each device
 abbrev deviceJoined : List (List ℕ)
 deviceJoined = (# 7 ∷ ∅ ∷ # 41 ∷ # 2 ∷ []) ∷ (# 8 ∷ ∅ ∷ # 41 ∷ # 2 ∷ []) ∷ []
 
 abbrev alone : List (List Bool)
 alone = (● ∷ ○ ∷ ○ ∷ []) ∷ (○ ∷ ● ∷ ○ ∷ []) ∷ (○ ∷ ○ ∷ ● ∷ []) ∷ []
 
-abbrev withInterrupt : List (List Bool)
-withInterrupt = (● ∷ ● ∷ ○ ∷ []) ∷ (● ∷ ○ ∷ ● ∷ []) ∷ []
+abbrev withAddress : List (List Bool)
+withAddress = (● ∷ ● ∷ ○ ∷ []) ∷ (● ∷ ○ ∷ ● ∷ []) ∷ []
 
 -- what is expected of two rows s and t
 record Verdicts : Type 0 where
@@ -259,14 +259,40 @@ cases =
       pair = none;
       again = none;
     }
-    -- A2: no column is marked: the interrupt of their guest is joined to both devices
+    -- A2: two devices of one guest, one of which the second table does not name; no column is marked: they are joined
+    ∷ record {
+      first = imageOf (column 10 ∷ column 11 ∷ column 13 ∷ []) ((# 7 ∷ # 3 ∷ # 2 ∷ []) ∷ []);
+      second = imageOf (column 10 ∷ column 12 ∷ column 13 ∷ []) ((∅ ∷ # 41 ∷ # 2 ∷ []) ∷ []);
+      columns = column 10 ∷ column 11 ∷ column 12 ∷ column 13 ∷ [];
+      union = (∅ ∷ ∅ ∷ # 41 ∷ # 2 ∷ []) ∷ (# 7 ∷ # 3 ∷ ∅ ∷ # 2 ∷ []) ∷ [];
+      minimum = (∅ ∷ ∅ ∷ # 41 ∷ # 2 ∷ []) ∷ (# 7 ∷ # 3 ∷ ∅ ∷ # 2 ∷ []) ∷ [];
+      sets = (● ∷ ● ∷ []) ∷ [];
+      joinedRows = (# 7 ∷ # 3 ∷ # 41 ∷ # 2 ∷ []) ∷ [];
+      fused = (# 7 ∷ # 3 ∷ # 41 ∷ # 2 ∷ []) ∷ [];
+      pair = none;
+      again = none;
+    }
+    -- the device is marked: they are not
+    ∷ record {
+      first = imageOf (marked 10 ∷ column 11 ∷ column 13 ∷ []) ((# 7 ∷ # 3 ∷ # 2 ∷ []) ∷ []);
+      second = imageOf (column 10 ∷ column 12 ∷ column 13 ∷ []) ((∅ ∷ # 41 ∷ # 2 ∷ []) ∷ []);
+      columns = marked 10 ∷ column 11 ∷ column 12 ∷ column 13 ∷ [];
+      union = (∅ ∷ ∅ ∷ # 41 ∷ # 2 ∷ []) ∷ (# 7 ∷ # 3 ∷ ∅ ∷ # 2 ∷ []) ∷ [];
+      minimum = (∅ ∷ ∅ ∷ # 41 ∷ # 2 ∷ []) ∷ (# 7 ∷ # 3 ∷ ∅ ∷ # 2 ∷ []) ∷ [];
+      sets = (● ∷ ○ ∷ []) ∷ (○ ∷ ● ∷ []) ∷ [];
+      joinedRows = (∅ ∷ ∅ ∷ # 41 ∷ # 2 ∷ []) ∷ (# 7 ∷ # 3 ∷ ∅ ∷ # 2 ∷ []) ∷ [];
+      fused = (∅ ∷ ∅ ∷ # 41 ∷ # 2 ∷ []) ∷ (# 7 ∷ # 3 ∷ ∅ ∷ # 2 ∷ []) ∷ [];
+      pair = none;
+      again = none;
+    }
+    -- no column is marked: the address of their guest is joined to both devices
     ∷ record {
       first = imageOf (column 10 ∷ column 11 ∷ column 13 ∷ []) devices;
-      second = imageOf (column 12 ∷ column 13 ∷ []) interrupts;
+      second = imageOf (column 12 ∷ column 13 ∷ []) addresses;
       columns = column 10 ∷ column 11 ∷ column 12 ∷ column 13 ∷ [];
       union = deviceUnion;
       minimum = deviceUnion;
-      sets = withInterrupt;
+      sets = withAddress;
       joinedRows = deviceJoined;
       fused = deviceJoined;
       pair = none;
@@ -275,7 +301,7 @@ cases =
     -- the device is marked: a shared guest number is no evidence, and nothing is joined
     ∷ record {
       first = imageOf (marked 10 ∷ column 11 ∷ column 13 ∷ []) devices;
-      second = imageOf (column 12 ∷ column 13 ∷ []) interrupts;
+      second = imageOf (column 12 ∷ column 13 ∷ []) addresses;
       columns = marked 10 ∷ column 11 ∷ column 12 ∷ column 13 ∷ [];
       union = deviceUnion;
       minimum = deviceUnion;
@@ -288,11 +314,11 @@ cases =
     -- the second table alone marks the guest number, at another place
     ∷ record {
       first = imageOf (column 10 ∷ column 11 ∷ column 13 ∷ []) devices;
-      second = imageOf (column 12 ∷ marked 13 ∷ []) interrupts;
+      second = imageOf (column 12 ∷ marked 13 ∷ []) addresses;
       columns = column 10 ∷ column 11 ∷ column 12 ∷ marked 13 ∷ [];
       union = deviceUnion;
       minimum = deviceUnion;
-      sets = withInterrupt;
+      sets = withAddress;
       joinedRows = deviceJoined;
       fused = deviceJoined;
       pair = none;
@@ -301,7 +327,7 @@ cases =
     -- a mark on a column that is empty everywhere leaves no evidence: nothing is joined
     ∷ record {
       first = imageOf (column 10 ∷ marked 11 ∷ column 13 ∷ []) devices;
-      second = imageOf (column 12 ∷ column 13 ∷ []) interrupts;
+      second = imageOf (column 12 ∷ column 13 ∷ []) addresses;
       columns = column 10 ∷ marked 11 ∷ column 12 ∷ column 13 ∷ [];
       union = deviceUnion;
       minimum = deviceUnion;

@@ -98,6 +98,7 @@ module _ (a b : List ℕ) (first : Unmarked a) (second : Unmarked b) where
   unmarked-as-before = record {
     first-columns = question-before a first;
     second-columns = question-before b second;
+    columns = columns-before;
     outer = ap (λ (l : List ℕ). imageOf l (unionRows a b)) columns-before;
     minimum = ap (λ (l : List ℕ). imageOf l (minimumRows (unionRows a b))) columns-before;
     fused = ap (λ (l : List ℕ). fusedTable l (unionRows a b)) columns-before;

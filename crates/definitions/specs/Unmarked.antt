@@ -36,10 +36,11 @@ abbrev pub setsBefore : List (List ℕ) → List (List Bool)
 setsBefore rows = maximalSets (λ j k. complementBefore (getD rows j []) (getD rows k [])) (length rows)
 
 pub record AsBefore (a b : List ℕ) : Type 0 where
-  -- the same images pass question 5
+  -- question 5 says the same of both images
   pub first-columns : columnsRight a ≡ columnsBefore a
   pub second-columns : columnsRight b ≡ columnsBefore b
-  -- the results of the three calls are made of document 01's column words
+  -- the union's column words are document 01's, and the results of the three calls are made of them
+  pub columns : unionColumns a b ≡ wordsBefore a b
   pub outer : outerImage a b ≡ imageOf (wordsBefore a b) (unionRows a b)
   pub minimum : minimumImage a b ≡ imageOf (wordsBefore a b) (minimumRows (unionRows a b))
   pub fused : fusedImage a b ≡ fusedTable (wordsBefore a b) (unionRows a b)

@@ -1,4 +1,4 @@
--- The cells of the rows that a column's word holds are within the words. Assumes nothing.
+-- The cells of a column's filled rows are within the words. Assumes nothing.
 use mathlib.Core.Path.{_≡_, sym, _∙_, ap}
 use mathlib.Core.List.{List}
 use Prim.Native.Nat.{ℕ, _+_, _*_, _<_, _≤_}

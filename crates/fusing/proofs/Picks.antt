@@ -98,7 +98,7 @@ module _ (words : List ℕ) (rows : List (List ℕ)) (s : List Bool) (comp : Com
       joined-empty rows s column .1
       (λ r h. let m = members-are rows s r .0 h in ap (λ (t : List ℕ). getD t column 0) (m .3) ∙ f (m .0) (m .2))
 
--- ---- the rows stand in w, and each column's word holds the rows that are filled there
+-- ---- the rows stand in w, and `columns` holds each column's filled rows
 
 module _ (words : List ℕ) (c n : ℕ) (w columns : List ℕ) (fits : n * c ≤ length w) (o : ColumnsOf (rowsIn c n w) c columns) (s : List Bool)
     (listed : Member s (unionSets words (rowsIn c n w))) where

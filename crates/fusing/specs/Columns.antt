@@ -1,4 +1,4 @@
--- The cells in a column of the rows of a set, and of the rows that a column's word holds.
+-- The cells in a column of the rows of a set, and of a column's filled rows.
 use mathlib.Core.Path.{_≡_}
 use mathlib.Core.Bool.{true}
 use mathlib.Core.List.{List}
@@ -10,6 +10,6 @@ use Rattle.bitsets.specs.Bits.{has}
 abbrev pub Reach : ℕ → List ℕ → ℕ → ℕ → Type 0
 Reach width cells column set = (k : ℕ) → has set k ≡ true → k * width + column < length cells
 
--- the same of each column's word
+-- the same of each column's filled rows
 abbrev pub AllReach : ℕ → List ℕ → List ℕ → Type 0
 AllReach width columns cells = (c : ℕ) → c < width → Reach width cells c (getD columns c 0)

@@ -26,8 +26,7 @@ pub record CountedColumns (words columns counted : List ℕ) : Type 0 where
 
 -- ---- the rows that cross a row
 
--- rows with a cell for each column word, and the columns' words that hold those that are filled there: of every column, and of
--- those that count
+-- rows with a cell for each column word, and the columns' filled rows: of every column, and of those that count
 pub record Seen (words : List ℕ) (rows : List (List ℕ)) (columns counted : List ℕ) : Type 0 where
   pub few : length rows ≤ maxUnionRows
   pub wide : (k : ℕ) → k < length rows → length (getD rows k []) ≡ length words

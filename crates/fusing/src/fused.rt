@@ -12,8 +12,8 @@ use crate::positions::find_positions;
 use definitions::MAX_SETS;
 use definitions::MAX_UNION_ROWS;
 
-// Lists the maximal sets of the first n rows; how many they are, at most one more than the list of sets may have. Each column's word holds
-// the rows that are filled there.
+// Lists the maximal sets of the first n rows; how many they are, at most one more than the list of sets may have. `columns` holds each
+// column's filled rows.
 pub fn list_sets(
     column_words: &[u32],
     cells: &[u32],

@@ -33,7 +33,7 @@ fn any_marked(column_words: &[u32]) -> bool
 
 // Writes for each column the rows that are filled there, or none where the column does not count. It is done once, so that a mark costs
 // nothing a pair of rows.
-fn count_columns(column_words: &[u32], columns: &[u64], counted: &mut [u64])
+fn fill_counted(column_words: &[u32], columns: &[u64], counted: &mut [u64])
     requires { ⌜ (length (now «column_words») ≤ length (now columns))
         × (length (now «column_words») ≤ length (now counted)) ⌝ }
     ensures { λ r. ⌜ CountedColumns (now («column_words» .entry)) (now (columns .entry)) (now (counted .exit)) ⌝ }
@@ -128,7 +128,7 @@ fn narrow_columns(cells: &[u32], n: usize, width: usize, columns: &[u64], neighb
     }
 }
 
-// Writes the graph of the first n rows, of which each column's word holds those that are filled there.
+// Writes the graph of the first n rows; `columns` holds each column's filled rows.
 pub(crate) fn fill_neighbours(
     column_words: &[u32],
     cells: &[u32],
@@ -142,7 +142,7 @@ pub(crate) fn fill_neighbours(
         (rowsIn (length (now («column_words» .entry))) n (now (cells .entry))) (now (neighbours .exit)) ⌝ }
 {
     let mut counted = [0u64; MAX_COLUMNS];
-    count_columns(column_words, columns, &mut counted);
+    fill_counted(column_words, columns, &mut counted);
     cross_rows(column_words, cells, n, columns, &counted, neighbours);
     narrow_columns(cells, n, column_words.len(), columns, neighbours);
 }

@@ -116,7 +116,7 @@ module _ {width : ℕ} {w counts fuller columns : List ℕ} {k : ℕ} (own : k <
   own-part : (at-k : ℕ) → at-k ≡ k * width → take (at-k + width - at-k) (drop at-k w) ≡ at k
   own-part at-k here = part-row width at-k w ∙ ap (λ (x : ℕ). take width (drop x w)) here ∙ sym (rows-at width n k w own)
 
-  -- the part of the cells that is row k is as long as the columns' words are many
+  -- the part of the cells that is row k has no more cells than there are columns
   pub own-short : (at-k : ℕ) → at-k ≡ k * width → length (take (at-k + width - at-k) (drop at-k w)) ≤ length columns
   own-short at-k here = omega (arith, ap length (own-part at-k here), row-long k own, ready .filled-rows .size)
 

@@ -1,4 +1,4 @@
--- The columns' words, row by row and column by column, and the blank word of a cell. Assumes nothing.
+-- The columns' filled rows, row by row and column by column, and the blank word of a cell. Assumes nothing.
 use mathlib.Core.Path.{_≡_, refl, sym, _∙_, ap, ap₂, subst}
 use mathlib.Core.Bool.{Bool, true, not, cond}
 use mathlib.Core.List.{List, [], _∷_, _++_, map, map-append}
@@ -53,7 +53,7 @@ filled-within rows column k h =
     let m : contains (map f rows) k ≡ true = sym (has-bits (map f rows) k) ∙ h in
     omega (arith, holds-within (map f rows) k m, length-map rows f)
 
--- ---- one row more in the columns' words
+-- ---- one row more in the columns' filled rows
 
 -- the first c columns hold row j
 pub record FilledTo (row : List ℕ) (j : ℕ) (found : List ℕ) (c : ℕ) (columns : List ℕ) : Type 0 where

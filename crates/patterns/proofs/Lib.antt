@@ -1,4 +1,4 @@
--- Laws of digits, of filled patterns and their ones, of rows as parts of words, of the columns' words, and of tables that are tested entry
+-- Laws of digits, of filled patterns and their ones, of rows as parts of words, of the columns' filled rows, and of tables that are tested entry
 -- by entry.
 pub mod Table
 pub mod Bytes

@@ -1,4 +1,4 @@
--- The columns' words: for each column the set of the rows that are filled there, bit k for row k.
+-- The columns' filled rows: for each column the set of the rows that are filled there, bit k for row k.
 use mathlib.Core.Path.{_≡_}
 use mathlib.Core.Bool.{cond}
 use mathlib.Core.List.{List, [], _∷_, _++_, map}
@@ -21,6 +21,6 @@ pub record ColumnsOf (rows : List (List ℕ)) (width : ℕ) (columns : List ℕ)
   pub size : width ≤ length columns
   pub words : (c : ℕ) → c < width → getD columns c 0 ≡ filledIn rows c
 
--- the columns' words hold row j too, after j rows
+-- the columns' filled rows hold row j too, after j rows
 pub record FilledRow (row : List ℕ) (j : ℕ) (found columns : List ℕ) : Type 0 where
   pub more : (rows : List (List ℕ)) → length rows ≡ j → ColumnsOf rows (length row) found → ColumnsOf (rows ++ (row ∷ [])) (length row) columns

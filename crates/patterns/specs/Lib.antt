@@ -1,3 +1,3 @@
--- The filled patterns of rows, and the columns' words.
+-- The filled patterns of rows, and the columns' filled rows.
 pub mod Pattern
 pub mod Columns

@@ -1,5 +1,5 @@
-// The columns' words: for each column the set of the rows that are filled there, a bit a row. They tell of all rows at once which share a
-// filled column with a row, and which are filled wherever it is.
+// The columns' filled rows: for each column the set of the rows that are filled there, a bit a row. They tell of all rows at once which
+// share a filled column with a row, and which are filled wherever it is.
 use crate::bit;
 use bitsets::ALL_ROWS;
 ghost use mathlib.Core.Path.{_≡_};

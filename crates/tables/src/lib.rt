@@ -41,9 +41,9 @@ impl Table {
         ensures { λ r. ⌜ NewTable (now (a .entry)) (now (b .entry)) (length (now (all .entry))) r ⌝ }
     {
         let mut t = Self::EMPTY;
-        let first = 1 + words::columns(a[0]) as usize;
-        let second = 1 + words::columns(b[0]) as usize;
-        sort_columns(&a[1..first], &b[1..second], all, &mut t.ids);
+        let first_end = 1 + words::columns(a[0]) as usize;
+        let second_end = 1 + words::columns(b[0]) as usize;
+        sort_columns(&a[1..first_end], &b[1..second_end], all, &mut t.ids);
         t.columns = all.len();
         t
     }

@@ -1,5 +1,5 @@
 -- What complement union's questions from 9 on ask of T in a table in work, and what they leave in both buffers. The table's column words
--- are `words`; `columns` are the columns' words of `patterns`.
+-- are `words`; `columns` are the columns' filled rows of `patterns`.
 use mathlib.Core.Path.{_≡_}
 use mathlib.Core.List.{List}
 use Prim.Native.Nat.{ℕ, _*_, _≤_}

@@ -142,8 +142,8 @@ fn fuse_sets(
     fuse_many(column_words, cells, n, columns, list, table, sets)
 }
 
-// The questions from 9 on, for a table in work: its first n rows, and the first column words of its ids, one a column. Ids and cells have one lifetime so that two
-// fields of one table can be lent.
+// The questions from 9 on, for a table in work: its first n rows, and the first `width` of its ids, which are column words. Ids and cells
+// have one lifetime so that two fields of one table can be lent.
 pub(crate) fn fuse_table<'a>(
     ids: &'a [u32],
     width: usize,

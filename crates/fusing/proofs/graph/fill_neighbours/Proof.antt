@@ -8,11 +8,11 @@ use Rattle.fusing.proofs.Neighbours.{graph-of}
 use Rattle.fusing.proofs.graph.fill_neighbours.Statement.{statement}
 use Rattle.fusing.proofs.graph.fill_neighbours.Tie as tie
 
-slice-aggregate-count-columns : tie.Need-slice-aggregate-count-columns
-slice-aggregate-count-columns c = search needs
+slice-aggregate-fill-counted : tie.Need-slice-aggregate-fill-counted
+slice-aggregate-fill-counted c = search needs
 
-count-columns-requires : tie.Need-count-columns-requires
-count-columns-requires c κs = search needs
+fill-counted-requires : tie.Need-fill-counted-requires
+fill-counted-requires c κs = search needs
 
 slice-aggregate-cross-rows : tie.Need-slice-aggregate-cross-rows
 slice-aggregate-cross-rows c = search needs
@@ -39,5 +39,5 @@ returns c =
 pub fill-neighbours-spec : {M : Type 1} → statement M
 fill-neighbours-spec =
     tie.close
-    (tie.spec slice-aggregate-count-columns count-columns-requires slice-aggregate-cross-rows cross-rows-requires
+    (tie.spec slice-aggregate-fill-counted fill-counted-requires slice-aggregate-cross-rows cross-rows-requires
     narrow-columns-requires same-length returns)

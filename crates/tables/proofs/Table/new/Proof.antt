@@ -36,11 +36,11 @@ shared-slice-read-columns c =
 columns-requires : tie.Need-columns-requires
 columns-requires c κs = search needs
 
-cast-first : tie.Need-cast-first
-cast-first c = search needs
+cast-first-end : tie.Need-cast-first-end
+cast-first-end c = search needs
 
-add-first : tie.Need-add-first
-add-first c = search needs
+add-first-end : tie.Need-add-first-end
+add-first-end c = search needs
 
 shared-slice-read-columns-2 : tie.Need-shared-slice-read-columns-2
 shared-slice-read-columns-2 c =
@@ -49,11 +49,11 @@ shared-slice-read-columns-2 c =
 columns-requires-2 : tie.Need-columns-requires-2
 columns-requires-2 c κs = search needs
 
-cast-second : tie.Need-cast-second
-cast-second c = search needs
+cast-second-end : tie.Need-cast-second-end
+cast-second-end c = search needs
 
-add-second : tie.Need-add-second
-add-second c = search needs
+add-second-end : tie.Need-add-second-end
+add-second-end c = search needs
 
 sub-sort-columns : tie.Need-sub-sort-columns
 sub-sort-columns c = search needs
@@ -99,6 +99,6 @@ pub new-spec : {M : Type 1} → statement M
 new-spec =
     tie.close
     (tie.spec
-    shared-slice-read-columns columns-requires cast-first add-first shared-slice-read-columns-2 columns-requires-2 cast-second add-second
+    shared-slice-read-columns columns-requires cast-first-end add-first-end shared-slice-read-columns-2 columns-requires-2 cast-second-end add-second-end
     sub-sort-columns part-sort-columns-start part-sort-columns-end sub-sort-columns-2 part-sort-columns-start-2 part-sort-columns-end-2
     sort-columns-requires returns)

@@ -11,7 +11,7 @@ use borrow.Author.Needs.{needs}
 use Rattle.unions.proofs.fused.fuse_table.Statement.{statement}
 use Rattle.unions.proofs.fused.fuse_table.Tie as tie
 
--- the function's entry, from where the columns' words are made
+-- the function's entry, from where the columns' filled rows are made
 module _ (c : tie.After-columns) where
   abbrev start : tie.Start
   start = c .before .before .before .before .before .before

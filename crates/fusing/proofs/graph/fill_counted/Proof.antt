@@ -1,12 +1,12 @@
--- `count_columns` meets its contract. The loop's invariant: the words of the first c columns are written.
+-- `fill_counted` meets its contract. The loop's invariant: the words of the first c columns are written.
 use borrow.Author.Needs.{needs}
 use mathlib.Core.Bool.{true, false}
 use Prim.Native.Nat.{_-_, _<_}
 use native.Mathlib.Omega.{arith}
 use lib.ListN.{length}
 use Rattle.fusing.proofs.Counting.{CountedTo, counted-none, counted-turn, counted-end, counts-by}
-use Rattle.fusing.proofs.graph.count_columns.Statement.{statement}
-use Rattle.fusing.proofs.graph.count_columns.Tie as tie
+use Rattle.fusing.proofs.graph.fill_counted.Statement.{statement}
+use Rattle.fusing.proofs.graph.fill_counted.Tie as tie
 
 abbrev Inv-loop : tie.InvT-loop
 Inv-loop words columns counted₀ marked c₀ counted c = CountedTo words columns counted₀ counted c
@@ -102,8 +102,8 @@ returns c =
     let a = s .args in
     counted-end (a .column-words .now) (a .columns .now) (a .counted .now) (l .counted) (l .c) (l .inv) (search needs) (s .pre .1)
 
-pub count-columns-spec : {M : Type 1} → statement M
-count-columns-spec =
+pub fill-counted-spec : {M : Type 1} → statement M
+fill-counted-spec =
     tie.close
     (tie.spec Inv-loop μ-loop any-marked-requires loop-holds mul-is-marked shared-slice-read-is-marked is-marked-requires mul-counted
     shared-slice-read-counted mul-counted-2 slice-write-counted add-c loop-less loop-again mul-counted-3 slice-write-counted-2 add-c-2
