@@ -52,6 +52,10 @@ or-r false b e = e
 pub or-no : {a b : Bool} → a ≡ false → b ≡ false → (a || b) ≡ false
 or-no p q = ap₂ (λ (a b : Bool). a || b) p q
 
+pub or-none : (a b : Bool) → b ≡ false → (a || b) ≡ a
+or-none true b e = refl
+or-none false b e = e
+
 pub or-no-l : (a b : Bool) → (a || b) ≡ false → a ≡ false
 or-no-l a b e = not-so a (λ h. clash (or-l a b h) e)
 

@@ -11,7 +11,7 @@ use Rattle.definitions.specs.Lists.{any}
 use Rattle.definitions.specs.Word.{markOf}
 use Rattle.definitions.specs.ComplementUnion.{agree, share, markedCells, countedCells}
 use Rattle.definitions.specs.Claims.{Filled, CellAgrees, Counts, countsColumn, SharedCounted}
-use Rattle.definitions.proofs.Bools.{bool-cases, or-cases, or-l, or-r}
+use Rattle.definitions.proofs.Bools.{bool-cases, or-cases, or-l, or-r, or-none}
 use Rattle.definitions.proofs.Rows.{agree-at, agree-of, share-is}
 
 pub counts-is : (columns : List ℕ) (k : ℕ) → (countsColumn columns k ≡ true) ↔ Counts columns k
@@ -48,12 +48,8 @@ module _ (columns : List ℕ) where
   counted-at row k =
       let mark = markOf (getD columns k 0) in
       bool-cases (any markOf columns)
-      (λ e. rw e (marked-at columns row k ∙ ap (λ (b : Bool). cond b (getD row k 0) 0) (sym (alone mark))))
+      (λ e. rw e (marked-at columns row k ∙ ap (λ (b : Bool). cond b (getD row k 0) 0) (sym (or-none mark false refl))))
       (λ e. rw e (ap (λ (b : Bool). cond b (getD row k 0) 0) (sym (or-r mark true refl))))
-    where
-      alone : (b : Bool) → (b || false) ≡ b
-      alone true = refl
-      alone false = refl
 
   pub counted-length : (row : List ℕ) → length row ≤ length columns → length (countedCells columns row) ≡ length row
   unfolding countedCells

@@ -1,6 +1,7 @@
 -- The ids of two images: those of the first, and after them those of the second that are new. Assumes nothing.
 use mathlib.Core.Path.{_≡_, refl, sym, _∙_, ap, ap₂, subst}
-use mathlib.Core.Bool.{Bool, true, false, not}
+use mathlib.Core.Bool.{Bool, true, false, not, _||_}
+use mathlib.Core.Logic.{_⊎_}
 use mathlib.Core.List.{List, [], _∷_, _++_, map, append-nil, append-assoc}
 use Prim.Native.Nat.{ℕ, _+_, _-_, _≤_, _<_}
 use native.Mathlib.Numerals.{add-one}
@@ -13,18 +14,19 @@ use Rattle.definitions.specs.Lists.{any, filter, distinct}
 use Rattle.definitions.specs.Word.{idOf}
 use Rattle.definitions.specs.Image.{columnCount, columnWords, imageIds}
 use Rattle.definitions.specs.Ascending.{ascending}
-use Rattle.definitions.specs.OuterUnion.{compareWord, unionIds, unionColumn, unionColumns}
+use Rattle.definitions.specs.OuterUnion.{compareWord, unionIds, marks, unionColumn, unionColumns}
 use Rattle.definitions.specs.Questions.{imageNumber}
 use Rattle.definitions.specs.Statements.{Member}
 use Rattle.definitions.proofs.Lists.{keep-took, filter-left, member-get}
-use Rattle.definitions.proofs.Ascending.{ascending-has}
+use Rattle.definitions.proofs.Ascending.{ascending-has, ascending-only}
 use Rattle.definitions.proofs.Orders.{words}
 use Rattle.definitions.proofs.Questions.{passed-is}
 use Rattle.definitions.proofs.Images.{passed-ids}
+use Rattle.definitions.proofs.Unions.{ids-are}
 use Rattle.definitions.proofs.UnionColumns.{small-ids}
 use Rattle.images.proofs.Parts.{columns-part}
 use Rattle.lists.proofs.Pastes.{paste-front}
-use Rattle.tables.specs.UnionIds.{withNew, inOrder, BothIds, ColumnIds}
+use Rattle.tables.specs.UnionIds.{withNew, inOrder, BothIds, ColumnIds, ColumnsWith, Markable, MarksAdded}
 use Rattle.tables.proofs.Smaller.{distinct-count, new-distinct, new-ascending}
 
 -- ---- the loop: i ids are looked at, and those that are new stand after the first m
@@ -133,9 +135,22 @@ found-ids a b all d few = record {
   small = λ k h. small-ids a b (getD all k 0) (subst (Member (getD all k 0)) (d .union) (ascending-has words (getD all k 0) all (member-get 0 all k h)));
 }
 
--- the column words of these ids, in order, are the union's
-pub new-columns : (a b all : List ℕ) → BothIds a b all → (first second : List ℕ) → first ≡ columnWords a → second ≡ columnWords b
-    → map (unionColumn first second) (inOrder all) ≡ unionColumns a b
+-- the column words of either image can mark them
+pub markable : (a b all : List ℕ) → BothIds a b all → length all ≤ maxColumns → (image part : List ℕ) → part ≡ columnWords image
+    → ((id : ℕ) → Member id (imageIds image) → Member id (imageIds a) ⊎ Member id (imageIds b)) → (ids : List ℕ) → length ids ≡ maxColumns
+    → Markable part all ids
+markable a b all d few image part e either ids size = record {
+  union = found-ids a b all d few;
+  known = λ id h.
+      ascending-only words id all
+      (subst (Member id) (sym (d .union)) (ids-are a b id .1 (either id (subst (λ (l : List ℕ). Member id (map idOf l)) e h))));
+  room = size;
+}
+
+-- unmarked column words of these ids that have got the marks of both images are the union's
+pub union-marked : (a b all : List ℕ) → BothIds a b all → (first second x y z : List ℕ) → first ≡ columnWords a → second ≡ columnWords b
+    → ColumnsWith (λ id. false) all x → MarksAdded first all x y → MarksAdded second all y z → take (length all) z ≡ unionColumns a b
 unfolding unionColumns
-new-columns a b all d first second ea eb =
-    ap₂ (λ (p q : List ℕ). map (unionColumn p q) (inOrder all)) ea eb ∙ ap (map (unionColumn (columnWords a) (columnWords b))) (d .union)
+union-marked a b all d first second x y z ea eb unmarked one two =
+    two .each (λ id. false || marks first id) (one .each (λ id. false) unmarked)
+    ∙ ap₂ (λ (p q : List ℕ). map (unionColumn p q) (inOrder all)) ea eb ∙ ap (map (unionColumn (columnWords a) (columnWords b))) (d .union)

@@ -2,5 +2,6 @@
 pub mod Smaller
 pub mod Scatter
 pub mod IdLaws
+pub mod MarkLaws
 pub mod WidenLaws
 pub mod UnionLaws

@@ -7,7 +7,7 @@ mod union;
 mod widen;
 
 pub use columns::both_ids;
-use columns::sort_columns;
+use columns::union_columns;
 pub use union::union_rows;
 pub use union::widen_both;
 
@@ -41,9 +41,7 @@ impl Table {
         ensures { λ r. ⌜ NewTable (now (a .entry)) (now (b .entry)) (length (now (all .entry))) r ⌝ }
     {
         let mut t = Self::EMPTY;
-        let first_end = 1 + words::columns(a[0]) as usize;
-        let second_end = 1 + words::columns(b[0]) as usize;
-        sort_columns(&a[1..first_end], &b[1..second_end], all, &mut t.ids);
+        union_columns(a, b, all, &mut t.ids);
         t.columns = all.len();
         t
     }
