@@ -1,4 +1,6 @@
 // Sets of positions, a bit a position: the operations on words that hold them. A position is that of a row of T.
+#![tactic(auto)]
+
 ghost use Rattle.std.specs.Prelude.{◌≡◌, ℕ, ◌<◌};
 ghost use Rattle.bitsets.specs.Bits.{has, both, either, is_sub, but_not, with_row, rows_below, Inside, lowest, without_lowest, size_below, compare_bits, word_bits};
 

@@ -1,5 +1,7 @@
 // All maximal complementing sets of a graph of at most MAX_UNION_ROWS rows, in set order, in bounded work. Bit k of neighbours[j] says that the
 // rows j and k complement each other; a set of rows is a word whose bit k says that row k is in it.
+#![tactic(auto)]
+
 mod merging;
 mod ordering;
 mod parts;

@@ -14,12 +14,10 @@ fn is_mirrored(neighbours: &[u64], n: usize, j: usize) -> bool
     if has_row(neighbours[j], j) {
         return false;
     }
-    let mut k: usize = 0;
-    while k < n {
+    for k in 0..n {
         if has_row(neighbours[j], k) != has_row(neighbours[k], j) {
             return false;
         }
-        k += 1;
     }
     true
 }
@@ -29,11 +27,8 @@ pub(crate) fn is_graph(neighbours: &[u64], n: usize) -> bool
     requires { (n ≤ length neighbours.now) × (n ≤ word_bits) }
     ensures { result ≡ true → Graph neighbours.now n }
 {
-    let mut j: usize = 0;
-    while j < n {
-        if is_mirrored(neighbours, n, j) {
-            j += 1;
-        } else {
+    for j in 0..n {
+        if !is_mirrored(neighbours, n, j) {
             return false;
         }
     }

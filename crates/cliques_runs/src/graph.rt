@@ -5,7 +5,7 @@ ghost use Rattle.bitsets.specs.Bits.{word_bits};
 use bitsets::with_row;
 use definitions::MAX_ROWS;
 
-#[derive(Drop)]
+#[derive(Clone, Copy)]
 pub(crate) enum Shape {
     // No two rows complement each other.
     Apart,
@@ -91,14 +91,12 @@ fn word(shape: Shape, n: usize, j: usize) -> u64
     requires { n ≤ word_bits }
 {
     let mut w: u64 = 0;
-    let mut k: usize = 0;
-    while k < n {
+    for k in 0..n {
         if k != j {
             if beside(shape, j, k) {
                 w = with_row(w, k);
             }
         }
-        k += 1;
     }
     w
 }
@@ -107,9 +105,7 @@ fn word(shape: Shape, n: usize, j: usize) -> u64
 pub(crate) fn build(shape: Shape, n: usize, neighbours: &mut [u64])
     requires { (n ≤ length neighbours.old) × (n ≤ word_bits) }
 {
-    let mut j: usize = 0;
-    while j < n {
+    for j in 0..n {
         neighbours[j] = word(shape, n, j);
-        j += 1;
     }
 }

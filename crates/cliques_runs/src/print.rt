@@ -2,36 +2,33 @@
 ghost use Rattle.std.specs.Prelude.{◌≤◌, length};
 
 use bitsets::{WORD_BITS, has_row};
+use std::io;
 
 // A position, after a space.
-fn position(k: usize) {
-    io::write_all(1, b" ");
-    io::print_decimal(1, k as u64);
+fn position(rt: &impl Print, k: usize) -> io::Result<()> {
+    print!(rt; " {k}")
 }
 
-fn end_line() {
-    io::write_all(1, b"\n");
+fn end_line(rt: &impl Print) -> io::Result<()> {
+    println!(rt)
 }
 
 // The positions of a set.
-fn set(w: u64) {
-    let mut k: usize = 0;
-    while k < WORD_BITS {
+fn set(rt: &impl Print, w: u64) -> io::Result<()> {
+    for k in 0..WORD_BITS {
         if has_row(w, k) {
-            position(k);
+            position(rt, k)?;
         }
-        k += 1;
     }
-    end_line();
+    end_line(rt)
 }
 
 // The first count sets of a list.
-pub(crate) fn sets(list: &[u64], count: usize)
+pub(crate) fn sets(rt: &impl Print, list: &[u64], count: usize) -> io::Result<()>
     requires { count ≤ length list.now }
 {
-    let mut k: usize = 0;
-    while k < count {
-        set(list[k]);
-        k += 1;
+    for w in &list[..count] {
+        set(rt, *w)?;
     }
+    Ok(())
 }

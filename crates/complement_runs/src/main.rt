@@ -1,16 +1,20 @@
 // Runs of complement union: each case's answer, the words written, and how many of the words past them are as found, in both buffers.
+#![tactic(auto)]
+
 mod many;
 mod marks;
 mod paper;
 mod room;
 
-fn main() {
-    paper::few();
-    room::enough();
-    room::short();
-    room::none();
-    marks::devices();
-    marks::evidence();
-    many::at_limit();
-    many::above_limit();
+use std::io;
+
+fn main(rt: HostRuntime) -> io::Result<()> {
+    paper::few(&rt)?;
+    room::enough(&rt)?;
+    room::short(&rt)?;
+    room::none(&rt)?;
+    marks::devices(&rt)?;
+    marks::evidence(&rt)?;
+    many::at_limit(&rt)?;
+    many::above_limit(&rt)
 }

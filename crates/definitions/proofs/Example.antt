@@ -17,8 +17,9 @@ use Rattle.definitions.specs.Reading.{positions_of}
 use Rattle.definitions.specs.Text.{ascii, digits, decimal, cell_text}
 use Rattle.definitions.specs.Listing.{line}
 use Rattle.definitions.specs.Page.{blanks, page_line, band_page, page, all_pages}
-use Rattle.definitions.specs.declared.Output.TheVariants.{Listing, Pages}
+use Rattle.definitions.specs.declared.Output.TheVariants.{Pages}
 use Rattle.definitions.specs.Program.{words_of, union_text, minimum_text, sets_text, fused_text, listing, unions_text, read_text, fuse_text}
+use Rattle.definitions.specs.Outputs.{unions_output, read_output, whole_output}
 
 -- a filled cell with its number, and the empty cell
 abbrev # : ℕ → ℕ
@@ -62,7 +63,7 @@ output =
     ++ ascii "7 3 40 2\n"
     ++ ascii "9 5 41 1\n"
 
-pub worked_example : fuse_text Listing board plant ≡ output
+pub worked_example : fuse_text board plant ≡ output
 unfolding flatten all any filter find_index distinct all_below sum_below image_of insert ascending compare_row union_ids union_columns widened widened_rows union_rows
     filled covers subsumes minimum_rows tries pairs_tried same_row agree share marked_cells counted_cells complement contains subsets adjacent_to_all is_complementing is_maximal
     maximal_sets members join join_all joined union_sets fused_rows bits marks_from record_of set_record list_of set_list image_number pair_outcome fused_image
@@ -79,9 +80,9 @@ page_output =
     ++ ascii "   2           9           5          41           1                            \n"
     ++ flatten (replicate 56 (blanks 80 ++ (10 ∷ [])))
 
-pub worked_page : fuse_text Pages board plant ≡ page_output
+pub worked_page : whole_output Pages board plant ≡ page_output
 unfolding flatten all any filter find_index distinct all_below sum_below tabulate image_of insert ascending compare_row union_ids union_columns widened widened_rows union_rows
     filled covers subsumes same_row agree share marked_cells counted_cells complement contains subsets adjacent_to_all is_complementing is_maximal
     maximal_sets members join join_all joined union_sets fused_rows bits marks_from record_of set_record list_of set_list image_number pair_outcome fused_image
-    complement_outcome words_of digits decimal cell_text page_line band_page page all_pages unions_text read_text fuse_text
+    complement_outcome words_of digits decimal cell_text page_line band_page page all_pages unions_output read_output whole_output
 worked_page = refl

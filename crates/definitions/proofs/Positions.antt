@@ -1,6 +1,6 @@
 -- Laws of the positions of a set: they are those that it holds, ascending and below its length, and the set of them is
 -- the set again. Assumes nothing.
-use mathlib.Core.Path.{◌≡◌, refl, sym, ◌∙◌, ap}
+use mathlib.Core.Path.{◌≡◌, refl, sym, ◌∙◌, ap, subst}
 use mathlib.Core.Bool.{Bool, true, false}
 use mathlib.Core.Logic.{⊎_elim}
 use mathlib.Core.List.{List, [], ◌∷◌}
@@ -47,7 +47,9 @@ positions_hold from [] k = refl
 positions_hold from (true ∷ s) zero = rw (eq-eqb (from + 0) from (omega arith))
 positions_hold from (false ∷ s) zero = positions_before (suc from) s (from + 0) (omega arith)
 positions_hold from (true ∷ s) (suc k) =
-    rw (ne_eqb (from + suc k) from (λ e. omega arith), add-suc from k, ← suc-add from k) (positions_hold (suc from) s k)
+    let next : from + suc k ≡ suc from + k = omega arith in
+    rw (ne_eqb (from + suc k) from (λ e. omega arith))
+    (subst (λ (n : ℕ). any (eqb n) (positions_of (suc from) s) ≡ contains s k) (sym next) (positions_hold (suc from) s k))
 positions_hold from (false ∷ s) (suc k) = rw (add-suc from k, ← suc-add from k) (positions_hold (suc from) s k)
 
 -- the set of the positions of a set, if its mark words hold no more and no fewer than it

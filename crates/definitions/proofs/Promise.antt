@@ -195,7 +195,7 @@ same_calls a b c d ab cd columns rows table₁ table₂ sets₁ sets₂ room set
     let e : x ≡ y = p.answers ∙ outcome ∙ ap₂ (complement_outcome c d) room sets_room ∙ sym q.answers in
     record {
       answer = e;
-      table_words_lem = table_front p ∙ ap₂ written_words e (same_image a b c d ab cd columns rows) ∙ sym (table_front q);
+      table_words = table_front p ∙ ap₂ written_words e (same_image a b c d ab cd columns rows) ∙ sym (table_front q);
       set_words = set_front p ∙ ap₂ written_words e (ap₂ set_list columns rows) ∙ sym (set_front q);
     }
 

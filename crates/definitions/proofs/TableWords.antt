@@ -41,6 +41,6 @@ module _ (columns : List ℕ) (rows : List (List ℕ)) (t : Table columns rows) 
       omega (arith, size, image_length_lem columns rows t.even, length-append image rest)
 
 -- the words of a table within limits
-pub table_words_lem : (columns : List ℕ) (rows : List (List ℕ)) (n : ℕ) → ((r : List ℕ) → Member r rows → length r ≡ length columns)
+pub table_words : (columns : List ℕ) (rows : List (List ℕ)) (n : ℕ) → ((r : List ℕ) → Member r rows → length r ≡ length columns)
     → length columns ≤ max_columns → length rows ≤ n → length (image_of columns rows) ≤ 1 + max_columns + n * max_columns
-table_words_lem columns rows n even few most = omega (arith, image_length_lem columns rows even, mul-le-mul most few)
+table_words columns rows n even few most = omega (arith, image_length_lem columns rows even, mul-le-mul most few)

@@ -77,5 +77,5 @@ words_of_sets (refused number table) = 0
 -- "the same answer, done or refused, and the same written words"
 pub record SameResult (x y : Outcome) (table₁ table₂ sets₁ sets₂ : List ℕ) : Type 0 where
   pub answer : x ≡ y
-  pub table_words_lem : take (words_of_table x) table₁ ≡ take (words_of_table y) table₂
+  pub table_words : take (words_of_table x) table₁ ≡ take (words_of_table y) table₂
   pub set_words : take (words_of_sets x) sets₁ ≡ take (words_of_sets y) sets₂

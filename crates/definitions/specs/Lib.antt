@@ -25,4 +25,5 @@ pub mod Promise
 pub mod CInterface
 pub mod Listing
 pub mod Program
+pub mod Outputs
 pub mod TextPromise

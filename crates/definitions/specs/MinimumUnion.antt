@@ -1,6 +1,5 @@
 -- Document 01, "Subsumption and minimum union": filled cells, subsumption, the rows that stay, and the pairs tried.
-use Rattle.std.specs.Prelude.{ℕ, suc, ◌+◌, Bool, true, false, cond, not, ◌&&◌, ◌||◌, List, [], ◌∷◌, eqb, ltb, length, get_or}
-use Rattle.std.proofs.Math.Bool.{to_nat}
+use Rattle.std.specs.Prelude.{ℕ, suc, ◌+◌, Bool, true, cond, not, ◌&&◌, ◌||◌, List, [], ◌∷◌, eqb, ltb, length, get_or}
 use Rattle.definitions.specs.Lists.{any, filter, without, sum_below}
 use Rattle.definitions.specs.Word.{is_filled}
 

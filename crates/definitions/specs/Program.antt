@@ -1,5 +1,4 @@
--- Document 01, "Program `fuse`": its whole output, from the bytes of the two files. A missing file has none. And that of `fuse_pages`,
--- which prints the pages of request A3.
+-- Document 01, "Program `fuse`": its whole output, from the bytes of the two files. A missing file has none.
 use Rattle.std.specs.Prelude.{ℕ, ◌+◌, ◌*◌, ◌%◌, ◌^◌, Bool, cond, eqb, length, take}
 use mathlib.Core.List.{List, [], ◌∷◌, ◌++◌, map, flatten}
 use Rattle.definitions.specs.Limits.{max_columns, max_union_rows, max_sets}
@@ -8,14 +7,11 @@ use Rattle.definitions.specs.MinimumUnion.{filled, minimum_rows, pairs_tried}
 use Rattle.definitions.specs.ComplementUnion.{union_sets, fused_rows}
 use Rattle.definitions.specs.SetList.{fused_position}
 use Rattle.definitions.specs.Answer.{Outcome, done, refused}
-use Rattle.definitions.specs.Calls.{fused_image, complement_outcome}
+use Rattle.definitions.specs.Calls.{complement_outcome}
 use Rattle.definitions.specs.Reading.{positions_of}
 use Rattle.definitions.specs.Text.{ascii}
-use Rattle.definitions.specs.Page.{all_pages}
 use Rattle.definitions.specs.Listing.{columns_line, union_title, minimum_title, sets_title, fused_title}
 use Rattle.definitions.specs.Listing.{row_line, set_line, ragged_line, refused_line}
-use Rattle.definitions.specs.declared.Output.{Output}
-use Rattle.definitions.specs.declared.Output.TheVariants.{Listing, Pages}
 
 -- ---- files
 
@@ -85,29 +81,24 @@ abbrev pub unless_refused : Outcome → List ℕ → List ℕ
 unless_refused (done values) text = text
 unless_refused (refused number table) text = refused_line number table
 
--- what is printed of two images that aren't refused: the listing of `fuse`, or all pages of the fused table, page after page
-abbrev pub output_text : Output → List ℕ → List ℕ → List ℕ
-output_text Listing a b = listing a b
-output_text Pages a b = all_pages (fused_image a b)
-
 -- the text for two images
-unfoldable pub unions_text : Output → List ℕ → List ℕ → List ℕ
-unions_text output a b = unless_refused (complement_outcome a b lent_table lent_sets) (output_text output a b)
+unfoldable pub unions_text : List ℕ → List ℕ → List ℕ
+unions_text a b = unless_refused (complement_outcome a b lent_table lent_sets) (listing a b)
 
 -- "If the bytes read of a file aren't a multiple of 4, its whole output is one line, `ragged` and that file's name"
 abbrev pub unless_ragged : List ℕ → List ℕ → List ℕ → List ℕ
 unless_ragged name bytes text = cond (eqb (length bytes % 4) 0) text (ragged_line name)
 
 -- what is written for the bytes read; "board.tbl is named if both are so"
-unfoldable pub read_text : Output → List ℕ → List ℕ → List ℕ
-read_text output board plant =
+unfoldable pub read_text : List ℕ → List ℕ → List ℕ
+read_text board plant =
     unless_ragged (ascii "board.tbl") board
     (unless_ragged (ascii "plant.tbl") plant
-    (unions_text output (words_of board) (words_of plant)))
+    (unions_text (words_of board) (words_of plant)))
 
 -- the whole output for the bytes of two files
-unfoldable pub fuse_text : Output → List ℕ → List ℕ → List ℕ
-fuse_text output board plant = read_text output (take max_bytes board) (take max_bytes plant)
+unfoldable pub fuse_text : List ℕ → List ℕ → List ℕ
+fuse_text board plant = read_text (take max_bytes board) (take max_bytes plant)
 
 -- ---- its greatest length, over the limits
 
@@ -124,6 +115,6 @@ set_bytes = 3 * max_union_rows + 7
 abbrev pub title_bytes : ℕ
 title_bytes = 6 * max_columns + 8 + 4 * 26
 
--- no output is longer: all pages of a table, at most 54 of 4,860 bytes, are shorter than the longest listing
+-- no output is longer
 abbrev pub max_text : ℕ
 max_text = title_bytes + (2 * max_union_rows + max_sets) * row_bytes + max_sets * set_bytes

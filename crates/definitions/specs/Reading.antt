@@ -1,6 +1,6 @@
 -- Document 01, "Complementation and complement union": the words of a set list, read.
 -- A record has m mark words and a row word.
-use Rattle.std.specs.Prelude.{ℕ, suc, ◌+◌, ◌*◌, ◌/◌, ◌%◌, ◌^◌, Bool, cond, List, [], ◌∷◌, ◌++◌, eqb, get_or, drop}
+use Rattle.std.specs.Prelude.{ℕ, suc, ◌*◌, ◌/◌, ◌%◌, ◌^◌, Bool, cond, List, [], ◌∷◌, ◌++◌, eqb, get_or, drop}
 use Rattle.definitions.specs.Limits.{marks_per_word}
 use Rattle.definitions.specs.Lists.{tabulate}
 use Rattle.definitions.specs.Word.{rows_of}

@@ -1,6 +1,8 @@
--- What `fuse_text` promises of its answer and of each byte of its buffer, whatever the two files hold.
+-- What `fuse_text`, and `output_text` for each program, promise of their answer and of each byte of their buffer, whatever the two
+-- files hold.
 use Rattle.std.specs.Prelude.{◌≡◌, cond, List, ◌++◌, ℕ, leb, length, drop}
 use Rattle.definitions.specs.Program.{fuse_text, max_text}
+use Rattle.definitions.specs.Outputs.{whole_output}
 use Rattle.definitions.specs.declared.Output.{Output}
 use Rattle.definitions.specs.declared.TextAnswer.{TextAnswer}
 use Rattle.definitions.specs.declared.TextAnswer.TheVariants.{Done, TooShort}
@@ -13,6 +15,10 @@ text_answer text room = cond (leb max_text room) (Done (length text)) TooShort
 abbrev pub text_after : List ℕ → List ℕ → List ℕ
 text_after text found = cond (leb max_text (length found)) (text ++ drop (length text) found) found
 
-pub record TextPromise (output : Output) (board plant found : List ℕ) (answer : TextAnswer) (after : List ℕ) : Type 0 where
-  pub answers : answer ≡ text_answer (fuse_text output board plant) (length found)
-  pub writes : after ≡ text_after (fuse_text output board plant) found
+pub record TextPromise (board plant found : List ℕ) (answer : TextAnswer) (after : List ℕ) : Type 0 where
+  pub answers : answer ≡ text_answer (fuse_text board plant) (length found)
+  pub writes : after ≡ text_after (fuse_text board plant) found
+
+pub record OutputPromise (output : Output) (board plant found : List ℕ) (answer : TextAnswer) (after : List ℕ) : Type 0 where
+  pub answers : answer ≡ text_answer (whole_output output board plant) (length found)
+  pub writes : after ≡ text_after (whole_output output board plant) found

@@ -1,4 +1,6 @@
 // What code and definitions share: the limits, the order of two elements, and the answers of the calls.
+#![tactic(auto)]
+
 mod limits;
 
 pub use limits::{

@@ -1,6 +1,8 @@
-// The program `fuse` of document 01: it fuses board.tbl and plant.tbl, and prints the listing.
-use definitions::Output;
+// The program `fuse` of document 01: it fuses board.tbl and plant.tbl.
+#![tactic(auto)]
 
-fn main() {
-    fuse_body::run(Output::Listing, b"board.tbl", b"plant.tbl");
+use std::io;
+
+fn main(rt: HostRuntime) -> io::Result<()> {
+    fuse_body::run(&rt, b"board.tbl", b"plant.tbl")
 }

@@ -28,7 +28,8 @@ use Rattle.definitions.specs.Promise.{OuterPromise, MinimumPromise}
 use Rattle.definitions.specs.Reading.{positions_of}
 use Rattle.definitions.specs.Listing.{columns_line, union_title, minimum_title, sets_title, fused_title, set_line, refused_line}
 use Rattle.definitions.specs.Program.{row_lines, set_lines, lent_table, lent_sets, union_text, minimum_text, sets_text, fused_text, listing}
-use Rattle.definitions.specs.Program.{unless_refused, output_text, unions_text}
+use Rattle.definitions.specs.Program.{unless_refused}
+use Rattle.definitions.specs.Outputs.{output_text, unions_output}
 use Rattle.definitions.specs.Page.{all_pages}
 use Rattle.definitions.specs.Statements.{Member}
 use Rattle.definitions.specs.Claims.{Passed, ComplementDone}
@@ -40,7 +41,7 @@ use Rattle.definitions.proofs.Outcomes.{outer_done, minimum_done, complement_don
 use Rattle.definitions.proofs.Images.{accepted_rows}
 use Rattle.definitions.proofs.Reading.{positions_read, position_read, records_read, listed_length, listed_position}
 use Rattle.definitions.proofs.UnionColumns.{columns_ids, columns_few}
-use Rattle.definitions.proofs.TableWords.{Table, columns_front, rows_front, table_front, table_words_lem}
+use Rattle.definitions.proofs.TableWords.{Table, columns_front, rows_front, table_front, table_words}
 use Rattle.definitions.proofs.FusedPasses.{fused_passes}
 use Rattle.listing.specs.Lines.{HasRows, table_lines, union_lines, record_line, list_lines}
 use Rattle.fuse_body.specs.Parts.{IsDone, FusedAnswer, FusedWords}
@@ -151,7 +152,7 @@ module _ (a b : List ℕ) where
   unfolding outer_image
   done_outer i number table e =
       let accepted = ((complement_done a b lent_table lent_sets i.values).0 i.outcome).accepted in
-      let room = table_words_lem columns T max_union_rows (rows_even a b) (columns_few a b accepted) (accepted_rows a b accepted) in
+      let room = table_words columns T max_union_rows (rows_even a b) (columns_few a b accepted) (accepted_rows a b accepted) in
       let is = (outer_done a b lent_table _).1 (record { accepted = accepted; table_room = omega (arith, room); carries = refl }) in
       let z : ◌≡◌ {A = ℕ} 0 1 = cc in omega arith
 
@@ -160,7 +161,7 @@ module _ (a b : List ℕ) where
   done_minimum i number table e =
       let accepted = ((complement_done a b lent_table lent_sets i.values).0 i.outcome).accepted in
       let most = accepted_rows a b accepted in
-      let room = table_words_lem columns (minimum_rows T) max_union_rows minimum_even (columns_few a b accepted)
+      let room = table_words columns (minimum_rows T) max_union_rows minimum_even (columns_few a b accepted)
       (omega (arith, most, minimum_count T)) in
       let is = (minimum_done a b lent_table _).1 (record { accepted = accepted; table_room = omega (arith, room); carries = refl }) in
       let z : ◌≡◌ {A = ℕ} 0 1 = cc in omega arith
@@ -218,10 +219,10 @@ module _ (a b : List ℕ) where
 
 module _ {a b fused sets : List ℕ} {answer : ComplementAnswer} (w : FusedAnswer a b answer fused sets) where
   outcome : complement_says answer ≡ complement_outcome a b lent_table lent_sets
-  outcome = w.promise.answers ∙ ap₂ (complement_outcome a b) w.table_words_lem w.set_words
+  outcome = w.promise.answers ∙ ap₂ (complement_outcome a b) w.table_words w.set_words
 
-  pub refused_text : (output : Output) {number table : ℕ} → answer ≡ Refused number table → refused_line number table ≡ unions_text output a b
-  unfolding unions_text
+  pub refused_text : (output : Output) {number table : ℕ} → answer ≡ Refused number table → refused_line number table ≡ unions_output output a b
+  unfolding unions_output
   refused_text output is = ap (λ (o : Outcome). unless_refused o (output_text output a b)) (sym (ap complement_says is) ∙ outcome)
 
   module _ {rows words cells count words_of_sets : ℕ} (is : answer ≡ Done rows words cells count words_of_sets) where
@@ -237,13 +238,13 @@ module _ {a b fused sets : List ℕ} {answer : ComplementAnswer} (w : FusedAnswe
     table_left : fused ≡ fused_image a b ++ drop (length (fused_image a b)) w.found_table
     table_left = left _ values (fused_image a b) w.found_table fused (sym (ap complement_says is)) w.promise.writes
 
-    output_text_lem : (output : Output) → output_text output a b ≡ unions_text output a b
-    unfolding unions_text
+    output_text_lem : (output : Output) → output_text output a b ≡ unions_output output a b
+    unfolding unions_output
     output_text_lem output = ap (λ (o : Outcome). unless_refused o (output_text output a b)) said
 
     -- ---- the listing
 
-    pub listed_text : {output : Output} → output ≡ Listing → listing a b ≡ unions_text output a b
+    pub listed_text : {output : Output} → output ≡ Listing → listing a b ≡ unions_output output a b
     listed_text {output} e = ap (λ (o : Output). output_text o a b) (sym e) ∙ output_text_lem output
 
     pub listed_words : FusedWords a b fused rows cells sets count
@@ -289,5 +290,5 @@ module _ {a b fused sets : List ℕ} {answer : ComplementAnswer} (w : FusedAnswe
     pub table_passes : Passed max_stored_rows (take words fused)
     table_passes = rw fused_image_lem (fused_passes a b lent_table lent_sets values call_done)
 
-    pub paged_text : {output : Output} → output ≡ Pages → all_pages (take words fused) ≡ unions_text output a b
+    pub paged_text : {output : Output} → output ≡ Pages → all_pages (take words fused) ≡ unions_output output a b
     paged_text {output} e = ap all_pages fused_image_lem ∙ ap (λ (o : Output). output_text o a b) (sym e) ∙ output_text_lem output

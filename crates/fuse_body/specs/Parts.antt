@@ -19,7 +19,7 @@ pub record Decoded (bytes words : List ℕ) (n : ℕ) : Type 0 where
 pub record Lent (fused sets table out : List ℕ) : Type 0 where
   pub fused_words : length fused ≡ lent_table
   pub set_words : length sets ≡ lent_sets
-  pub table_words_lem : length table ≡ lent_table
+  pub table_words : length table ≡ lent_table
   pub text_bytes : max_text ≤ length out
 
 -- complement union of the pair is done
@@ -31,14 +31,14 @@ pub record IsDone (a b : List ℕ) : Type 0 where
 -- and there is room for the section's text
 pub record Section (a b table out : List ℕ) (at : ℕ) (text : List ℕ) : Type 0 where
   pub is_done : IsDone a b
-  pub table_words_lem : length table ≡ lent_table
+  pub table_words : length table ≡ lent_table
   pub fits : Fits out at text
 
 -- complement union of the pair has answered this, and left these words in buffers that are lent as a program does
 pub record FusedAnswer (a b : List ℕ) (answer : ComplementAnswer) (fused sets : List ℕ) : Type 0 where
   pub found_table : List ℕ
   pub found_sets : List ℕ
-  pub table_words_lem : length found_table ≡ lent_table
+  pub table_words : length found_table ≡ lent_table
   pub set_words : length found_sets ≡ lent_sets
   pub promise : ComplementPromise a b found_table found_sets (complement_says answer) fused sets
 

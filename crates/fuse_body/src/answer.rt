@@ -1,7 +1,8 @@
 // The whole text of a program, from the bytes of two files.
 ghost use Rattle.std.specs.Prelude.{◌≤◌, min, ◌≡◌, length};
-ghost use Rattle.definitions.specs.TextPromise.{TextPromise};
-ghost use Rattle.definitions.specs.Program.{max_bytes, max_text, lent_table, unions_text, read_text};
+ghost use Rattle.definitions.specs.TextPromise.{OutputPromise, TextPromise};
+ghost use Rattle.definitions.specs.Program.{max_bytes, max_text, lent_table};
+ghost use Rattle.definitions.specs.Outputs.{unions_output, read_output};
 ghost use Rattle.lists.specs.Written.{Written};
 ghost use Rattle.fuse_body.specs.Parts.{Lent, FusedAnswer};
 
@@ -46,7 +47,7 @@ fn put_answer(
     requires fused_answer { FusedAnswer a.now b.now answer fused.now sets.now }
     requires table_len { (length table.old ≡ lent_table) × (max_text ≤ length out.old) }
     ensures { Written out.old 0
-        (unions_text output a.now b.now) out.new result }
+        (unions_output output a.now b.now) out.new result }
 {
     match answer {
         ComplementAnswer::Refused { number, table: k } => refused_line(number, k, out, 0),
@@ -75,7 +76,7 @@ fn put_unions(
 ) -> usize
     requires { Lent fused.old sets.old table.old out.old }
     ensures { Written out.old 0
-        (unions_text output a.now b.now) out.new result }
+        (unions_output output a.now b.now) out.new result }
 {
     let answer = unions::complement_union(a, b, fused, sets);
     put_answer(output, answer, a, b, fused, sets, table, out)
@@ -85,7 +86,7 @@ fn put_unions(
 fn put_images(output: Output, a: &[u32], b: &[u32], out: &mut [u8]) -> usize
     requires { max_text ≤ length out.old }
     ensures { Written out.old 0
-        (unions_text output a.now b.now) out.new result }
+        (unions_output output a.now b.now) out.new result }
 {
     let mut fused = [0u32; TABLE];
     let mut sets = [0u32; SETS];
@@ -98,7 +99,7 @@ fn put_read(output: Output, board: &[u8], plant: &[u8], out: &mut [u8]) -> usize
     requires { (length board.now ≤ max_bytes) × (length plant.now ≤ max_bytes)
         × (max_text ≤ length out.old) }
     ensures { Written out.old 0
-        (read_text output board.now plant.now) out.new result }
+        (read_output output board.now plant.now) out.new result }
 {
     if board.len() % WORD_BYTES != 0 {
         return ragged_line(b"board.tbl", out, 0);
@@ -125,8 +126,8 @@ fn read_length(size: usize) -> usize
 
 // The whole output of a program for the bytes of the two files goes to the front of `out`. A buffer of fewer than MAX_TEXT bytes stays
 // as it is, whatever the text: so no output depends on how long a buffer was lent.
-pub fn fuse_text(output: Output, board: &[u8], plant: &[u8], out: &mut [u8]) -> TextAnswer
-    ensures { TextPromise output board.now plant.now
+pub fn output_text(output: Output, board: &[u8], plant: &[u8], out: &mut [u8]) -> TextAnswer
+    ensures { OutputPromise output board.now plant.now
         out.old result out.new }
 {
     if out.len() < MAX_TEXT {
@@ -136,4 +137,12 @@ pub fn fuse_text(output: Output, board: &[u8], plant: &[u8], out: &mut [u8]) -> 
     let n = read_length(plant.len());
     let length = put_read(output, &board[..m], &plant[..n], out);
     TextAnswer::Done { length }
+}
+
+// The whole listing for the bytes of the two files, as `output_text` puts it.
+pub fn fuse_text(board: &[u8], plant: &[u8], out: &mut [u8]) -> TextAnswer
+    ensures { TextPromise board.now plant.now
+        out.old result out.new }
+{
+    output_text(Output::Listing, board, plant, out)
 }

@@ -19,11 +19,9 @@ pub(crate) fn decode(bytes: &[u8], words: &mut [u32]) -> usize
     ensures { Decoded bytes.now words.new result }
 {
     let count = bytes.len() / WORD_BYTES;
-    let mut i = 0;
-    while i < count {
+    for i in 0..count {
         let at = WORD_BYTES * i;
         words[i] = word(bytes[at], bytes[at + 1], bytes[at + 2], bytes[at + 3]);
-        i += 1;
     }
     count
 }

@@ -1,40 +1,65 @@
 // A run of a program: it reads two files, and writes the whole output.
-ghost use Rattle.io.specs.Counts.{IsPrefixLen};
+ghost use Rattle.std.specs.Prelude.{◌≡◌, take, ◌≤◌, length};
 
-use crate::answer::{BYTES, MAX_TEXT, fuse_text};
+use crate::answer::{BYTES, MAX_TEXT, output_text};
 use definitions::{Output, TextAnswer};
-use libc::STDOUT_FILENO;
+use std::fs::File;
+use std::io;
+use std::io::Read;
+use std::rt::Files;
 
-// Reads the start of a file, and answers how many bytes came. A missing file has none.
-fn read_bytes(path: &[u8], bytes: &mut [u8]) -> usize
-    ensures { IsPrefixLen result bytes.new }
+// Reads the start of a file, and answers how many bytes came. A file that is missing or can't be opened has none; where a read fails, the
+// file ends.
+fn read_bytes(rt: &impl Files, path: &[u8], bytes: &mut [u8]) -> usize
+    ensures within { result ≤ length bytes.new }
+    ensures read { result ≡ length (take result bytes.new) }
 {
-    let fd = os::open_read(path);
-    if fd < 0 {
+    let Ok(path) = str::from_utf8(path) else {
         return 0;
+    };
+    let Ok(mut file) = File::open(rt, path) else {
+        return 0;
+    };
+    let mut done = 0;
+    while done < bytes.len() {
+        match file.read(&mut bytes[done..]) {
+            Ok(0) | Err(_) => break,
+            Ok(n) => done += n,
+        }
     }
-    let n = io::read_full(fd, bytes);
-    libc::close(fd);
-    n
+    done
 }
 
-// Writes the output for the bytes of two files. `run` lends MAX_TEXT bytes, so that no buffer is too short and nothing is cut.
-fn write_text(output: Output, board: &[u8], plant: &[u8], out: &mut [u8]) {
-    let answer = fuse_text(output, board, plant, out);
-    match answer {
-        TextAnswer::TooShort => {}
-        TextAnswer::Done { length } => {
-            io::write_all(STDOUT_FILENO, &out[..length]);
-        }
+// Writes the output for the bytes of two files. `run_output` lends MAX_TEXT bytes, so that no buffer is too short and nothing is cut.
+fn write_text(
+    rt: &impl Print,
+    output: Output,
+    board: &[u8],
+    plant: &[u8],
+    out: &mut [u8],
+) -> io::Result<()> {
+    match output_text(output, board, plant, out) {
+        TextAnswer::TooShort => Ok(()),
+        TextAnswer::Done { length } => rt.write_all(&out[..length]),
     }
 }
 
 // Reads the files at two paths, board first, and writes the whole output.
-pub fn run(output: Output, board: &[u8], plant: &[u8]) {
+pub fn run_output(
+    rt: &(impl Files + Print),
+    output: Output,
+    board: &[u8],
+    plant: &[u8],
+) -> io::Result<()> {
     let mut first = [0u8; BYTES];
     let mut second = [0u8; BYTES];
-    let m = read_bytes(board, &mut first);
-    let n = read_bytes(plant, &mut second);
+    let m = read_bytes(rt, board, &mut first);
+    let n = read_bytes(rt, plant, &mut second);
     let mut out = [0u8; MAX_TEXT];
-    write_text(output, &first[..m], &second[..n], &mut out);
+    write_text(rt, output, &first[..m], &second[..n], &mut out)
+}
+
+// Reads the files at two paths, board first, and writes the whole listing.
+pub fn run(rt: &(impl Files + Print), board: &[u8], plant: &[u8]) -> io::Result<()> {
+    run_output(rt, Output::Listing, board, plant)
 }

@@ -1,4 +1,6 @@
 // The steps of complement union from T on: who complements whom, the maximal sets, the joined rows of sets, and the fused table.
+#![tactic(auto)]
+
 mod fused;
 mod graph;
 mod groups;

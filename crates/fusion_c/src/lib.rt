@@ -1,5 +1,7 @@
 // The C interface of the three unions, of the reader of set lists and of pages. A slice is a pointer and a length in C. Each call returns the
 // number of its refusal, 0 for done, and puts the words of its answer into `answer`, as far as they fit.
+#![tactic(auto)]
+
 mod answers;
 
 ghost use Rattle.definitions.specs.Promise.{OuterPromise, MinimumPromise, ComplementPromise, ReadPromise, PagePromise};

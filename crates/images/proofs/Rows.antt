@@ -1,11 +1,11 @@
 -- The image of rows that are told by their indices, written over the front of a buffer: what `write_image` and `put_image` give.
 -- Assumes nothing.
 use mathlib.Core.Path.{◌≡◌, refl, sym, ◌∙◌, ap, ap₂}
-use mathlib.Core.List.{List, [], ◌∷◌, ◌++◌, map, flatten}
-use Prim.Native.Nat.{ℕ, ◌+◌, ◌-◌, ◌*◌, ◌^◌, ◌≤◌, ◌<◌}
+use mathlib.Core.List.{List, [], ◌∷◌, ◌++◌, flatten}
+use Prim.Native.Nat.{ℕ, ◌+◌, ◌-◌, ◌*◌, ◌≤◌, ◌<◌}
 use native.Mathlib.Nat.{mul-le-mul}
 use native.Mathlib.Omega.{arith}
-use lib.ListN.{length, get_or, take, drop, length-map, length-append}
+use lib.ListN.{length, take, drop, length-map, length-append}
 use lib.Seq.{paste, length-paste, length-take-le}
 use Rattle.definitions.specs.Limits.{max_columns, max_sets}
 use Rattle.definitions.specs.Word.{header_word}

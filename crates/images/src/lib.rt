@@ -1,4 +1,6 @@
 // A table image: the questions 1 to 7 that are put to it, and its writing.
+#![tactic(auto)]
+
 ghost use Rattle.std.specs.Prelude.{◌≡◌, map, eqb};
 ghost use Rattle.definitions.specs.Lists.{all, any, distinct};
 ghost use Rattle.definitions.specs.Word.{id_of, is_cell};

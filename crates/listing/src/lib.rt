@@ -1,5 +1,7 @@
 // The lines of the program `fuse` of document 01. Each function writes lines into a lent buffer from byte `at` on, and answers where they
 // end; every other byte stays as it was.
+#![tactic(auto)]
+
 mod lines;
 mod sets;
 mod tables;

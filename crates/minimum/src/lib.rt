@@ -1,5 +1,7 @@
 // The trying of minimum union: each row of a table is tried with the other rows, until one subsumes it. The rows that none subsumes stay,
 // and are named by their indices.
+#![tactic(auto)]
+
 mod candidates;
 mod counts;
 mod trial;

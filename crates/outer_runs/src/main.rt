@@ -1,12 +1,16 @@
 // Runs of outer union: each case's answer, the words written, and how many of the words past them are as found.
+#![tactic(auto)]
+
 mod outer;
 mod spoiled;
 
-fn main() {
-    outer::rows();
-    outer::columns();
-    outer::room();
-    spoiled::heads();
-    spoiled::words();
-    spoiled::both();
+use std::io;
+
+fn main(rt: HostRuntime) -> io::Result<()> {
+    outer::rows(&rt)?;
+    outer::columns(&rt)?;
+    outer::room(&rt)?;
+    spoiled::heads(&rt)?;
+    spoiled::words(&rt)?;
+    spoiled::both(&rt)
 }

@@ -1,12 +1,16 @@
 // Runs of the page call: the fused table of document 01, tables of many rows and columns, and refusals.
+#![tactic(auto)]
+
 mod paper;
 mod refusals;
 mod show;
 mod sizes;
 mod table;
 
-fn main() {
-    paper::run();
-    sizes::run();
-    refusals::run();
+use std::io;
+
+fn main(rt: HostRuntime) -> io::Result<()> {
+    paper::run(&rt)?;
+    sizes::run(&rt)?;
+    refusals::run(&rt)
 }

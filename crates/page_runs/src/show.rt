@@ -4,6 +4,7 @@ ghost use Rattle.std.specs.Prelude.{◌≤◌};
 use crate::table;
 use definitions::PageAnswer;
 use run_cases::print;
+use std::io;
 
 // What every byte of a lent buffer holds before a call.
 const FOUND: u8 = b'~';
@@ -14,10 +15,8 @@ const WORDS: usize = 16417;
 // How many bytes hold what the buffer held before the call. No character of a page is that.
 fn kept(bytes: &[u8]) -> u64 {
     let mut n: u64 = 0;
-    let mut i = 0;
-    while i < bytes.len() {
-        n += same(bytes[i]);
-        i += 1;
+    for byte in bytes {
+        n += same(*byte);
     }
     n
 }
@@ -30,67 +29,89 @@ fn same(byte: u8) -> u64
 }
 
 // The whole page, or its first three lines.
-fn written(bytes: &[u8], whole: bool) {
+fn written(rt: &impl Print, bytes: &[u8], whole: bool) -> io::Result<()> {
     if whole {
-        print::text(bytes);
-        return;
+        return print::text(rt, bytes);
     }
     if 243 <= bytes.len() {
-        print::text(&bytes[..243]);
+        print::text(rt, &bytes[..243])?;
     }
+    Ok(())
 }
 
 // The bytes that were written, and how many of the others are as found.
-fn buffer(bytes: &[u8], end: usize, whole: bool) {
+fn buffer(rt: &impl Print, bytes: &[u8], end: usize, whole: bool) -> io::Result<()> {
     if end <= bytes.len() {
         if 0 < end {
-            written(&bytes[..end], whole);
+            written(rt, &bytes[..end], whole)?;
         }
-        print::text(b"past");
-        print::value((bytes.len() - end) as u64);
-        print::text(b" kept");
-        print::value(kept(&bytes[end..]));
-        print::end_line();
+        print::text(rt, b"past")?;
+        print::value(rt, (bytes.len() - end) as u64)?;
+        print::text(rt, b" kept")?;
+        print::value(rt, kept(&bytes[end..]))?;
+        print::end_line(rt)?;
     }
+    Ok(())
 }
 
-fn call(image: &[u32], page: u32, bytes: &mut [u8], whole: bool) {
+fn call(
+    rt: &impl Print,
+    image: &[u32],
+    page: u32,
+    bytes: &mut [u8],
+    whole: bool,
+) -> io::Result<()> {
     let answer = pages::page(image, page, bytes);
     match answer {
         PageAnswer::Done { pages } => {
-            print::text(b": done");
-            print::value(pages as u64);
-            print::end_line();
-            buffer(bytes, pages::PAGE_BYTES, whole);
+            print::text(rt, b": done")?;
+            print::value(rt, pages as u64)?;
+            print::end_line(rt)?;
+            buffer(rt, bytes, pages::PAGE_BYTES, whole)
         }
         PageAnswer::Refused { number, table } => {
-            print::refused(number, table);
-            buffer(bytes, 0, whole);
+            print::refused(rt, number, table)?;
+            buffer(rt, bytes, 0, whole)
         }
     }
 }
 
 // Asks for a page of the image in the first n words, with a buffer of at most 5,000 bytes.
-pub fn image(words: &[u32], n: usize, page: u32, room: usize, whole: bool) {
+pub fn image(
+    rt: &impl Print,
+    words: &[u32],
+    n: usize,
+    page: u32,
+    room: usize,
+    whole: bool,
+) -> io::Result<()> {
     let mut found = [FOUND; 5000];
     let bytes: &mut [u8] = &mut found;
-    print::text(b"page");
-    print::value(page as u64);
+    print::text(rt, b"page")?;
+    print::value(rt, page as u64)?;
     if room <= bytes.len() {
         if n <= words.len() {
-            call(&words[..n], page, &mut bytes[..room], whole);
+            call(rt, &words[..n], page, &mut bytes[..room], whole)?;
         }
     }
+    Ok(())
 }
 
 // Asks for a page of a table of so many rows and columns.
-pub fn table(rows: u32, columns: u32, page: u32, room: usize, whole: bool) {
+pub fn table(
+    rt: &impl Print,
+    rows: u32,
+    columns: u32,
+    page: u32,
+    room: usize,
+    whole: bool,
+) -> io::Result<()> {
     let mut words = [0u32; WORDS];
     let n = table::write(&mut words, rows, columns);
-    print::text(b"rows");
-    print::value(rows as u64);
-    print::text(b" columns");
-    print::value(columns as u64);
-    print::text(b" ");
-    image(&words, n, page, room, whole);
+    print::text(rt, b"rows")?;
+    print::value(rt, rows as u64)?;
+    print::text(rt, b" columns")?;
+    print::value(rt, columns as u64)?;
+    print::text(rt, b" ")?;
+    image(rt, &words, n, page, room, whole)
 }

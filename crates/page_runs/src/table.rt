@@ -38,10 +38,8 @@ pub fn write(words: &mut [u32], rows: u32, columns: u32) -> usize {
         words,
         0,
     );
-    let mut k: usize = 0;
-    while k < size {
+    for k in 0..size {
         image::put(word(k, c), words, 1 + k);
-        k += 1;
     }
     1 + size
 }

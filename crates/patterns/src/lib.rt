@@ -1,4 +1,6 @@
 // The filled pattern of a row, the ones of a pattern, the count of filled cells, and the rows that are filled in each column.
+#![tactic(auto)]
+
 ghost use Rattle.std.specs.Prelude.{◌≡◌, cond, ◌*◌, ◌≤◌, ◌<◌, ◌^◌, length};
 ghost use mathlib.Core.List.{flatten};
 ghost use Rattle.definitions.specs.Limits.{max_columns};

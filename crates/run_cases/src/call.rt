@@ -1,22 +1,23 @@
 // The three calls, with their answers printed.
 use crate::print;
 use definitions::{ComplementAnswer, MinimumAnswer, OuterAnswer};
+use std::io;
 
-#[derive(Drop)]
+#[derive(Clone, Copy)]
 pub enum Call {
     Outer,
     Minimum,
     Complement,
 }
 
-fn done(rows: usize, words: usize, filled: usize) {
-    print::text(b": done");
-    print::value(rows as u64);
-    print::value(words as u64);
-    print::value(filled as u64);
+fn done(rt: &impl Print, rows: usize, words: usize, filled: usize) -> io::Result<()> {
+    print::text(rt, b": done")?;
+    print::value(rt, rows as u64)?;
+    print::value(rt, words as u64)?;
+    print::value(rt, filled as u64)
 }
 
-fn outer(a: &[u32], b: &[u32], buffer: &mut [u32]) {
+fn outer(rt: &impl Print, a: &[u32], b: &[u32], buffer: &mut [u32]) -> io::Result<()> {
     let answer = unions::outer_union(a, b, buffer);
     match answer {
         OuterAnswer::Done {
@@ -24,18 +25,18 @@ fn outer(a: &[u32], b: &[u32], buffer: &mut [u32]) {
             words,
             filled,
         } => {
-            done(rows, words, filled);
-            print::end_line();
-            print::buffer(buffer, words);
+            done(rt, rows, words, filled)?;
+            print::end_line(rt)?;
+            print::buffer(rt, buffer, words)
         }
         OuterAnswer::Refused { number, table } => {
-            print::refused(number, table);
-            print::buffer(buffer, 0);
+            print::refused(rt, number, table)?;
+            print::buffer(rt, buffer, 0)
         }
     }
 }
 
-fn minimum(a: &[u32], b: &[u32], buffer: &mut [u32]) {
+fn minimum(rt: &impl Print, a: &[u32], b: &[u32], buffer: &mut [u32]) -> io::Result<()> {
     let answer = unions::minimum_union(a, b, buffer);
     match answer {
         MinimumAnswer::Done {
@@ -44,19 +45,25 @@ fn minimum(a: &[u32], b: &[u32], buffer: &mut [u32]) {
             filled,
             pairs,
         } => {
-            done(rows, words, filled);
-            print::value(pairs as u64);
-            print::end_line();
-            print::buffer(buffer, words);
+            done(rt, rows, words, filled)?;
+            print::value(rt, pairs as u64)?;
+            print::end_line(rt)?;
+            print::buffer(rt, buffer, words)
         }
         MinimumAnswer::Refused { number, table } => {
-            print::refused(number, table);
-            print::buffer(buffer, 0);
+            print::refused(rt, number, table)?;
+            print::buffer(rt, buffer, 0)
         }
     }
 }
 
-fn complement(a: &[u32], b: &[u32], buffer: &mut [u32], list: &mut [u32]) {
+fn complement(
+    rt: &impl Print,
+    a: &[u32],
+    b: &[u32],
+    buffer: &mut [u32],
+    list: &mut [u32],
+) -> io::Result<()> {
     let answer = unions::complement_union(a, b, buffer, list);
     match answer {
         ComplementAnswer::Done {
@@ -66,41 +73,56 @@ fn complement(a: &[u32], b: &[u32], buffer: &mut [u32], list: &mut [u32]) {
             sets,
             set_words,
         } => {
-            done(rows, words, filled);
-            print::value(sets as u64);
-            print::value(set_words as u64);
-            print::end_line();
-            print::buffer(buffer, words);
-            print::buffer(list, set_words);
+            done(rt, rows, words, filled)?;
+            print::value(rt, sets as u64)?;
+            print::value(rt, set_words as u64)?;
+            print::end_line(rt)?;
+            print::buffer(rt, buffer, words)?;
+            print::buffer(rt, list, set_words)
         }
         ComplementAnswer::Refused { number, table } => {
-            print::refused(number, table);
-            print::buffer(buffer, 0);
-            print::buffer(list, 0);
+            print::refused(rt, number, table)?;
+            print::buffer(rt, buffer, 0)?;
+            print::buffer(rt, list, 0)
         }
     }
 }
 
 // Makes a call with a table buffer and a set buffer, and prints its answer.
-fn lend(call: Call, a: &[u32], b: &[u32], table: &mut [u32], list: &mut [u32]) {
+fn lend(
+    rt: &impl Print,
+    call: Call,
+    a: &[u32],
+    b: &[u32],
+    table: &mut [u32],
+    list: &mut [u32],
+) -> io::Result<()> {
     match call {
-        Call::Outer => outer(a, b, table),
-        Call::Minimum => minimum(a, b, table),
-        Call::Complement => complement(a, b, table, list),
+        Call::Outer => outer(rt, a, b, table),
+        Call::Minimum => minimum(rt, a, b, table),
+        Call::Complement => complement(rt, a, b, table, list),
     }
 }
 
 // Makes a call with buffers of some words, none of them more than 12,000.
-pub(crate) fn run(call: Call, a: &[u32], b: &[u32], room: usize, set_room: usize) {
+pub(crate) fn run(
+    rt: &impl Print,
+    call: Call,
+    a: &[u32],
+    b: &[u32],
+    room: usize,
+    set_room: usize,
+) -> io::Result<()> {
     let mut found = [print::FOUND; 12000];
     let table: &mut [u32] = &mut found;
     let mut found_sets = [print::FOUND; 12000];
     let list: &mut [u32] = &mut found_sets;
     if room <= table.len() {
         if set_room <= list.len() {
-            lend(call, a, b, &mut table[..room], &mut list[..set_room]);
+            lend(rt, call, a, b, &mut table[..room], &mut list[..set_room])?;
         }
     }
+    Ok(())
 }
 
 // The set list of complement union; how many words it has, 0 for a refusal.

@@ -17,10 +17,8 @@ fn cell(row: usize, column: usize) -> u32 {
 
 // Writes the cells behind the header and the columns.
 fn cells(words: &mut [u32]) {
-    let mut k: usize = 0;
-    while k < 220 {
+    for k in 0..220 {
         image::put(cell(k / 11, k % 11), words, 12 + k);
-        k += 1;
     }
 }
 

@@ -89,15 +89,12 @@ fn header(end: u32, columns: u32) -> u32 {
 
 // Writes the image that a text describes; how many words it has.
 pub fn read(text: &[u8], image: &mut [u32]) -> usize {
-    let mut i = 0;
     let mut at: u32 = 1;
     let mut columns: u32 = 0;
-    while i < text.len() {
-        let c = text[i];
-        put_byte(c, columns, image, at);
-        columns = columns_by(columns, at, c);
-        at = next(at, c);
-        i += 1;
+    for c in text {
+        put_byte(*c, columns, image, at);
+        columns = columns_by(columns, at, *c);
+        at = next(at, *c);
     }
     put(header(at, columns), image, 0);
     index(at)

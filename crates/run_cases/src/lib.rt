@@ -1,4 +1,6 @@
 // What the runs of the calls share: tables from short texts, a call on them, and its answer and buffers as lines.
+#![tactic(auto)]
+
 pub mod call;
 pub mod cases;
 pub mod fan;

@@ -1,34 +1,34 @@
 // Answers and buffers as lines.
 ghost use Rattle.std.specs.Prelude.{◌<◌, ◌≤◌};
 
+use std::io;
+
 // What every word of a lent buffer holds before a call.
 pub const FOUND: u32 = 0x5a5a_5a5a;
 
-pub fn text(t: &[u8]) {
-    io::write_all(1, t);
+pub fn text(rt: &impl Print, t: &[u8]) -> io::Result<()> {
+    rt.write_all(t)
 }
 
-pub fn end_line() {
-    text(b"\n");
+pub fn end_line(rt: &impl Print) -> io::Result<()> {
+    text(rt, b"\n")
 }
 
 // A number, after a space.
-pub fn value(n: u64) {
-    text(b" ");
-    io::print_decimal(1, n);
+pub fn value(rt: &impl Print, n: u64) -> io::Result<()> {
+    print!(rt; " {n}")
 }
 
-fn word(w: u32) {
-    text(b" ");
-    io::print_hex(1, w as u64, 8);
+fn word(rt: &impl Print, w: u32) -> io::Result<()> {
+    print!(rt; " {w:08x}")
 }
 
-pub fn refused(number: u32, table: u32) {
-    text(b": refused");
-    value(number as u64);
-    text(b" table");
-    value(table as u64);
-    end_line();
+pub fn refused(rt: &impl Print, number: u32, table: u32) -> io::Result<()> {
+    text(rt, b": refused")?;
+    value(rt, number as u64)?;
+    text(rt, b" table")?;
+    value(rt, table as u64)?;
+    end_line(rt)
 }
 
 // 1 for a word as found, else 0.
@@ -41,10 +41,8 @@ fn same(w: u32) -> u64
 // How many words hold what a buffer held before the call.
 fn kept(words: &[u32]) -> u64 {
     let mut n: u64 = 0;
-    let mut i = 0;
-    while i < words.len() {
-        n += same(words[i]);
-        i += 1;
+    for w in words {
+        n += same(*w);
     }
     n
 }
@@ -52,10 +50,8 @@ fn kept(words: &[u32]) -> u64 {
 // One number made of all words and their places.
 fn digest(words: &[u32]) -> u64 {
     let mut d: u64 = 0;
-    let mut i = 0;
-    while i < words.len() {
-        d = (d * 31 + wide(words[i])) % 65521;
-        i += 1;
+    for w in words {
+        d = (d * 31 + wide(*w)) % 65521;
     }
     d
 }
@@ -66,35 +62,35 @@ fn wide(w: u32) -> u64
     w as u64
 }
 
-fn all_words(words: &[u32]) {
-    let mut i = 0;
-    while i < words.len() {
-        word(words[i]);
-        i += 1;
+fn all_words(rt: &impl Print, words: &[u32]) -> io::Result<()> {
+    for w in words {
+        word(rt, *w)?;
     }
+    Ok(())
 }
 
 // The written words, or a number made of them where they are more than 64.
-fn written(words: &[u32]) {
+fn written(rt: &impl Print, words: &[u32]) -> io::Result<()> {
     if words.len() <= 64 {
-        all_words(words);
+        all_words(rt, words)?;
     } else {
-        text(b" digest");
-        value(digest(words));
+        text(rt, b" digest")?;
+        value(rt, digest(words))?;
     }
-    end_line();
+    end_line(rt)
 }
 
 // The words that were written, and how many of the others are as found.
-pub fn buffer(words: &[u32], end: usize) {
+pub fn buffer(rt: &impl Print, words: &[u32], end: usize) -> io::Result<()> {
     if end <= words.len() {
         if 0 < end {
-            written(&words[..end]);
+            written(rt, &words[..end])?;
         }
-        text(b" past");
-        value((words.len() - end) as u64);
-        text(b" kept");
-        value(kept(&words[end..]));
-        end_line();
+        text(rt, b" past")?;
+        value(rt, (words.len() - end) as u64)?;
+        text(rt, b" kept")?;
+        value(rt, kept(&words[end..]))?;
+        end_line(rt)?;
     }
+    Ok(())
 }

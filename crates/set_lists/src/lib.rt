@@ -1,4 +1,6 @@
 // The set list: written for complement union, and read back.
+#![tactic(auto)]
+
 mod checks;
 mod members;
 mod order;

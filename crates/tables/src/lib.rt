@@ -1,4 +1,6 @@
 // The table in work, and the outer union of two accepted images in it.
+#![tactic(auto)]
+
 ghost use Rattle.std.specs.Prelude.{length};
 ghost use Rattle.tables.specs.Table.{Found, NewTable};
 
@@ -36,6 +38,7 @@ impl Table {
     };
 
     // A table with the union's columns, whose distinct ids are told as they were found; it has no rows, and empty cells.
+    #[inline(always)]
     pub fn new(a: &[u32], b: &[u32], all: &[u32]) -> Table
         requires { Found a.now b.now all.now }
         ensures { NewTable a.now b.now (length all.now) result }

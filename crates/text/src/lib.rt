@@ -1,5 +1,7 @@
 // Numbers and cells as text. Each function writes a text into a lent buffer from byte `at` on, and answers where the text ends; every other
 // byte stays as it was.
+#![tactic(auto)]
+
 ghost use Rattle.std.specs.Prelude.{◌+◌, ◌≤◌, [], ◌∷◌, ◌++◌, length};
 ghost use Rattle.definitions.specs.Text.{decimal, cell_text};
 ghost use Rattle.lists.specs.Written.{Fits, Written};

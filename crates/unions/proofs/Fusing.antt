@@ -96,8 +96,8 @@ module _ {words cells : List ℕ} {n : ℕ} {columns list joins order positions 
   named : image_of (take (length words) words) (rows_at (length words) joins (take m order)) ≡ image
   named = ap₂ image_of (whole_list words) f.fused
 
-  table_words_lem : words_of_table ≡ length image
-  table_words_lem = image_words fused_writable ∙ ap length named
+  table_words : words_of_table ≡ length image
+  table_words = image_words fused_writable ∙ ap length named
 
   -- what the questions 10 and 11 tell of two buffers
   module _ (table sets : List ℕ) (number : ℕ) (asked : Roomy words_of_table (length table) words_of_sets (length sets) number) where
@@ -105,7 +105,7 @@ module _ {words cells : List ℕ} {n : ℕ} {columns list joins order positions 
     outcome =
         sym (asked.says (done values))
         ∙ ap₂ (λ (x y : ℕ). unless (no (leb x (length table)) 10) 2 (unless (no (leb y (length sets)) 11) 2 (done values)))
-        table_words_lem list_words_lem
+        table_words list_words_lem
 
     pub fused_refused : (number ≡ 0 → ⊥) → FusedInto words T (refused number 2) table table sets sets
     fused_refused h = record { answers = sym (unless_refused_lem number 2 (done values) h) ∙ outcome; writes = refl; lists = refl }

@@ -1,4 +1,6 @@
 // The three unions of two table images. Each call writes its result into the lent buffers, or refuses and changes nothing.
+#![tactic(auto)]
+
 mod complement;
 mod fused;
 mod minimal;

@@ -2,7 +2,6 @@
 use mathlib.Core.Path.{◌≡◌, refl, ◌∙◌, ap}
 use mathlib.Core.Bool.{false}
 use Prim.Native.Nat.{ℕ, zero, suc, ◌+◌, ◌*◌, ◌%◌, ◌^◌, ◌<◌}
-use native.Mathlib.Omega.{arith}
 use lib.Bits.{bit_or, or_shifted}
 use Rattle.definitions.specs.Word.{cell_of_kind}
 

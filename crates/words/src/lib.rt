@@ -1,4 +1,6 @@
 // The fields of a 32-bit word of an image, by shifts and masks.
+#![tactic(auto)]
+
 ghost use Rattle.std.specs.Prelude.{◌≡◌, ◌<◌, ◌%◌, ◌^◌};
 ghost use Rattle.definitions.specs.Word.{kind_of, word_of, rows_of, columns_of, header_spare, header_word, id_of, mark_of, column_spare};
 ghost use Rattle.definitions.specs.Word.{column_word, is_cell};

@@ -1,0 +1,18 @@
+-- The sets of the graph of T are the maximal sets of T.
+use lib.ListN.{length}
+use Rattle.fusing.proofs.FusedTables.{graph_for, sets_of}
+use Rattle.fusing.proofs.fused.list_sets.Goals as goal
+
+pub find_sets-requires : goal.find_sets-requires
+find_sets-requires c =
+    let n = c in
+    let q = n in
+    let s = q.args in
+    (graph_for s.column_words.now (length s.column_words.now) s.n s.cells.now _ n.fill_neighbours.ensures, q.requires.0.few, q.requires.2)
+
+pub returns : goal.returns
+returns c =
+    let n = c in
+    let s = n.args in
+    let f = c.find_sets.ensures in
+    (f.0, sets_of s.column_words.now (length s.column_words.now) s.n _ s.cells.now _ _ n.fill_neighbours.ensures f.1)

@@ -1,0 +1,13 @@
+-- Whether every word passed may stand as one of the columns.
+use mathlib.Core.Path.{◌≡◌}
+use Prim.Native.Nat.{◌≤◌, ◌-◌}
+use lib.ListN.{length, take}
+use Rattle.definitions.specs.Lists.{all}
+use Rattle.definitions.specs.Image.{is_column}
+use Rattle.images.proofs.all_columns.Given as goal
+
+abbrev pub invariant-loop-i : goal.invariant-loop-i
+invariant-loop-i l = (l.i ≤ length l.w) × (l.fit ≡ all is_column (take l.i l.w))
+
+abbrev pub decreases-loop-i : goal.decreases-loop-i
+decreases-loop-i l = length l.w - l.i

@@ -1,0 +1,14 @@
+-- `title_line` meets its contract: what is written so far and the numbers that are left are the line.
+use Prim.Native.Nat.{◌-◌}
+use mathlib.Core.List.{map}
+use lib.ListN.{length}
+use Rattle.definitions.specs.Text.{decimal}
+use Rattle.definitions.proofs.Lines.{later}
+use Rattle.listing.proofs.Fields.{Fields}
+use Rattle.listing.proofs.lines.title_line.Given as goal
+
+abbrev pub invariant-loop-i : goal.invariant-loop-i
+invariant-loop-i l = Fields decimal l.numbers (later (map decimal l.numbers)) l.initial.out l.initial.end l.i l.out l.end
+
+abbrev pub decreases-loop-i : goal.decreases-loop-i
+decreases-loop-i l = length l.numbers - l.i

@@ -1,0 +1,8 @@
+-- `put_right` meets its contract: the blanks, and then the text.
+use Rattle.lists.proofs.Writing.{then_written}
+use Rattle.pages.proofs.fields.put_right.Goals as goal
+
+pub returns : goal.returns
+returns c =
+    let last = c in
+    then_written last.put_blanks-start.ensures last.put_text.ensures
