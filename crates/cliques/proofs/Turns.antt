@@ -41,6 +41,13 @@ pub record Turn (width cap : ℕ) (neighbours : List ℕ) (decided rest undecide
   pub rows_later : later ≡ without_lowest rest
   pub rows_known : known ≡ with_row decided i
 
+pub turn_of : {width cap : ℕ} {neighbours : List ℕ} {decided rest undecided set : ℕ} {list : List ℕ} {count i later known : ℕ}
+    → Ready width cap neighbours decided rest undecided set list count → (undecided ≡ 0 → ⊥) → count < cap
+    → i ≡ lowest rest → later ≡ without_lowest rest → known ≡ with_row decided i
+    → Turn width cap neighbours decided rest undecided set list count i later known
+turn_of ready some few row later known =
+    record { ready = ready; some = some; few = few; row = row; rows_later = later; rows_known = known }
+
 module _ {width cap : ℕ} {neighbours : List ℕ} {decided rest undecided set : ℕ} {list : List ℕ} {count i later known : ℕ}
     (t : Turn width cap neighbours decided rest undecided set list count i later known) where
   abbrev N : ℕ → ℕ
