@@ -125,6 +125,12 @@ module _ {cell : ℕ → ℕ} {filled rest : ℕ} {buckets leaders equal : List 
   pub bucket_filled : (d k : ℕ) → d < bucket_count → has (get_or buckets d 0) k ≡ true → has filled k ≡ true
   bucket_filled d k h m = passed_in filled rest k (inv.held d k h m)
 
+  pub digit_filled : (k : ℕ) → has (get_or buckets digit 0) k ≡ true → has filled k ≡ true
+  digit_filled k m = bucket_filled digit k (digit_small (cell j)) m
+
+  pub next_filled : has filled j ≡ true
+  next_filled = inv.among j low.there
+
   pub next_outside : (d : ℕ) → d < bucket_count → has (get_or buckets d 0) j ≡ false
   next_outside d h = not_so (has (get_or buckets d 0) j) (λ m. passed_other filled rest j inv.among low j (inv.held d j h m) refl)
 

@@ -150,6 +150,9 @@ module _ {width : ℕ} {w counts fuller columns : List ℕ} {k : ℕ} (own : k <
     pub next_within : j < n
     next_within = (left.fuller j low.there).0
 
+    pub next_there : j * width + width ≤ length w
+    next_there = row_end j next_within
+
     pub left_next : covers (at j) (at k) ≡ false → Remaining width n w k (bit_and rest (rest - 1))
     unfolding without_lowest
     left_next f = record {

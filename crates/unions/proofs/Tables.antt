@@ -1,5 +1,5 @@
 -- The results of outer union and minimum union: rows of a table in work, named by their indices. Assumes nothing.
-use mathlib.Core.Path.{◌≡◌, ◌∙◌, ap}
+use mathlib.Core.Path.{◌≡◌, refl, ◌∙◌, ap}
 use mathlib.Core.List.{List}
 use Prim.Native.Nat.{ℕ, ◌*◌, ◌≤◌}
 use native.Mathlib.Nat.{mul-le-mul}
@@ -12,7 +12,8 @@ use Rattle.rows.specs.Indices.{rows_at, Below, Ordered}
 use Rattle.rows.proofs.Indices.{below_fit}
 use Rattle.images.specs.Writing.{Writable}
 use Rattle.tables.specs.declared.Table.{Table}
-use Rattle.tables.specs.Table.{both_rows, TableOf}
+use Rattle.tables.specs.Table.{Found, NewTable, CellsOf, both_rows, TableOf}
+use Rattle.tables.proofs.UnionLaws.{filled_table}
 use Rattle.minimum.specs.Trying.{KeptRows}
 
 module _ {u : List ℕ} {rows : List (List ℕ)} {t : Table} (h : TableOf t u rows) where
@@ -32,6 +33,12 @@ module _ {u : List ℕ} {rows : List (List ℕ)} {t : Table} (h : TableOf t u ro
     within = within;
     fit = below_fit t.columns t.rows (length t.cells) (take m order) cells_there below;
   }
+
+-- a new table whose cells and count of rows a call has told
+pub filled : {a b all : List ℕ} {rs : List (List ℕ)} {rows : ℕ} {cells : List ℕ} → Found a b all → (new : Table) → NewTable a b (length all) new
+    → CellsOf rs (length all) rows cells
+    → TableOf (record { cells = cells; ids = new.ids; rows = rows; columns = new.columns }) (union_columns a b) rs
+filled f new made cells = filled_table f new made refl refl cells
 
 -- the rows at m indices, and that they can be written
 pub record Result (u : List ℕ) (rows : List (List ℕ)) (t : Table) (order : List ℕ) (m : ℕ) : Type 0 where

@@ -17,33 +17,25 @@ pub list_parts-found-requires : goal.list_parts-found-requires
 list_parts-found-requires c =
     let some : 0 < c.args.n = omega (arith, c.if-n-eq0.false) in
     let all : c.with_row.result ≡ rows_below c.args.n = all_rows c.args.n _ c.below.result c.with_row.result some refl c.below.ensures c.with_row.ensures in
-    let w = c in
-    let q = w in
-    (start_rows q.args.neighbours.now q.args.n q.requires.0 word_bits w.with_row.result (in_word q.requires.1) all, q.requires.2)
+    (start_rows c.args.neighbours.now c.args.n c.requires.0 word_bits c.with_row.result (in_word c.requires.1) all, c.requires.2)
 
 pub returns-then-found-gt-MAX_SETS : goal.returns-then-found-gt-MAX_SETS
 returns-then-found-gt-MAX_SETS c =
     let some : 0 < c.args.n = omega (arith, c.if-n-eq0.false) in
     let all : c.with_row.result ≡ rows_below c.args.n = all_rows c.args.n _ c.below.result c.with_row.result some refl c.below.ensures c.with_row.ensures in
-    let room : c.list_parts-found.result ≤ length c.list_parts-found.new.list = omega (arith, c.list_parts-found.ensures.0, c.list_parts-found.ensures.1, c.requires.2) in
-    let k = c in
-    let w = k in
-    let q = w in (
-      k.list_parts-found.ensures.1,
-      many_found q.args.neighbours.now q.args.n q.requires.0 word_bits (in_word q.requires.1) k.list_parts-found.new.list k.list_parts-found.result w.with_row.result some room
-          k.list_parts-found.ensures.0 all k.list_parts-found.ensures.2 c.if-found-gt-MAX_SETS.true,
+    let room : c.list_parts-found.result ≤ length c.list_parts-found.new.list = omega (arith, c.list_parts-found.ensures.0, c.list_parts-found.ensures.1, c.requires.2) in (
+      c.list_parts-found.ensures.1,
+      many_found c.args.neighbours.now c.args.n c.requires.0 word_bits (in_word c.requires.1) c.list_parts-found.new.list c.list_parts-found.result c.with_row.result some room
+          c.list_parts-found.ensures.0 all c.list_parts-found.ensures.2 c.if-found-gt-MAX_SETS.true,
     )
 
 pub returns : goal.returns
 returns c =
     let some : 0 < c.args.n = omega (arith, c.if-n-eq0.false) in
     let all : c.with_row.result ≡ rows_below c.args.n = all_rows c.args.n _ c.below.result c.with_row.result some refl c.below.ensures c.with_row.ensures in
-    let room : c.list_parts-found.result ≤ length c.list_parts-found.new.list = omega (arith, c.list_parts-found.ensures.0, c.list_parts-found.ensures.1, c.requires.2) in
-    let k = c in
-    let w = k in
-    let q = w in (
-      c.order_sets.auto.list ∙ k.list_parts-found.ensures.1,
-      all_found q.args.neighbours.now q.args.n q.requires.0 word_bits (in_word q.requires.1) k.list_parts-found.new.list k.list_parts-found.result w.with_row.result some room
-          k.list_parts-found.ensures.0 all k.list_parts-found.ensures.2 (omega (arith, c.if-found-gt-MAX_SETS.false)) c.order_sets.new.list c.order_sets.result
+    let room : c.list_parts-found.result ≤ length c.list_parts-found.new.list = omega (arith, c.list_parts-found.ensures.0, c.list_parts-found.ensures.1, c.requires.2) in (
+      c.order_sets.auto.list ∙ c.list_parts-found.ensures.1,
+      all_found c.args.neighbours.now c.args.n c.requires.0 word_bits (in_word c.requires.1) c.list_parts-found.new.list c.list_parts-found.result c.with_row.result some room
+          c.list_parts-found.ensures.0 all c.list_parts-found.ensures.2 (omega (arith, c.if-found-gt-MAX_SETS.false)) c.order_sets.new.list c.order_sets.result
           (omega (arith, room, c.order_sets.auto.list, c.order_sets.ensures.0)) c.order_sets.ensures.1,
     )

@@ -17,9 +17,8 @@ module _ (c : In-Done) where
   -- they fit words of 32 bits
   fits : FitWords counts
   fits =
-      let k = c in
-      let s = k.args in
-      let said = k.complement_union.ensures.answers in
+      let s = c.args in
+      let said = c.complement_union.ensures.answers in
       complement_fits s.first.now s.second.now (length s.table.now) (length s.sets.now) _
       (sym said ∙ ap complement_says c.in-Done.is)
 

@@ -17,9 +17,8 @@ module _ (c : In-Done) where
   -- they fit words of 32 bits
   fits : FitWords counts
   fits =
-      let k = c in
-      let s = k.args in
-      let said = k.minimum_union.ensures.answers in
+      let s = c.args in
+      let said = c.minimum_union.ensures.answers in
       minimum_fits s.first.now s.second.now (length s.table.now) _ (sym said ∙ ap minimum_says c.in-Done.is)
 
 pub overflow_cast-rows : goal.overflow_cast-rows

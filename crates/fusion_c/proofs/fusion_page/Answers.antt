@@ -12,9 +12,8 @@ module _ (c : In-Done) where
   -- the pages of a done answer fit a word of 32 bits
   fits : FitWords (c.in-Done.pages ∷ [])
   fits =
-      let k = c in
-      let s = k.args in
-      let said = k.page.ensures.answers in
+      let s = c.args in
+      let said = c.page.ensures.answers in
       page_fits s.image.now s.page (length s.bytes.now) _ (sym said ∙ ap page_says c.in-Done.is)
 
 pub overflow_cast-pages : goal.overflow_cast-pages

@@ -17,9 +17,8 @@ module _ (c : In-Done) where
   -- they fit words of 32 bits
   fits : FitWords counts
   fits =
-      let k = c in
-      let s = k.args in
-      let said = k.read_set_list.ensures.answers in
+      let s = c.args in
+      let said = c.read_set_list.ensures.answers in
       read_fits s.list.now s.rows (length s.words.now) _ (sym said ∙ ap read_says c.in-Done.is)
 
 pub overflow_cast-words : goal.overflow_cast-words

@@ -12,19 +12,17 @@ loop-k-init c =
 
 pub loop-k-preserved-then-tried : goal.loop-k-preserved-then-tried
 loop-k-preserved-then-tried c =
-    let t = c in
-    let l = t.loop-k in
-    let e = t.try_row-tried.ensures in
-    (search rules, l.invariant.1, subsumed_left l.invariant.2 t.requires.0.few (search rules) e c.if-tried.true)
+    let l = c.loop-k in
+    let e = c.try_row-tried.ensures in
+    (search rules, l.invariant.1, subsumed_left l.invariant.2 c.requires.0.few (search rules) e c.if-tried.true)
 
 pub loop-k-preserved : goal.loop-k-preserved
 loop-k-preserved c =
-    let t = c in
-    let l = t.loop-k in
-    let e = t.try_row-tried.ensures in (
+    let l = c.loop-k in
+    let e = c.try_row-tried.ensures in (
       search rules,
       length-set l.kept l.rows l.k ∙ l.invariant.1,
-      unsubsumed_kept l.invariant.2 t.requires.0.few (search rules) e (search rules) c.if-tried.false,
+      unsubsumed_kept l.invariant.2 c.requires.0.few (search rules) e (search rules) c.if-tried.false,
     )
 
 pub returns : goal.returns

@@ -16,14 +16,11 @@ put_number-last-requires t c = (omega arith, omega (arith, last_length _ c.if-n-
 
 pub put_byte-requires-2 : goal.put_byte-requires-2
 put_byte-requires-2 t c =
-    let called = c in
-    let many = called.if-n-lt10.false in
-    omega (arith, last_length _ many, called.put_number-last.ensures.ends, called.put_number-last.auto.out)
+    let many = c.if-n-lt10.false in
+    omega (arith, last_length _ many, c.put_number-last.ensures.ends, c.put_number-last.auto.out)
 
 pub returns : goal.returns
 returns t c =
-    let last = c in
-    let called = last in
-    let many = called.if-n-lt10.false in
+    let many = c.if-n-lt10.false in
     as_written (sym (decimal_last _ many))
-    (then_written called.put_number-last.ensures last.put_byte-2.ensures)
+    (then_written c.put_number-last.ensures c.put_byte-2.ensures)

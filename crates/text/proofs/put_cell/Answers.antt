@@ -21,6 +21,5 @@ put_number-requires c =
 
 pub returns : goal.returns
 returns c =
-    let k = c in
-    let e = ap decimal k.low_bits.ensures ∙ sym (number_text _ k.if-cell-eq0.false) in
+    let e = ap decimal c.low_bits.ensures ∙ sym (number_text _ c.if-cell-eq0.false) in
     as_written e c.put_number.ensures

@@ -11,66 +11,43 @@ loop-rest-init c = let s = c.args in (λ k h. h, common_none (row_of s.neighbour
 
 pub offset_bounds-neighbours-row : goal.offset_bounds-neighbours-row
 offset_bounds-neighbours-row c =
-    let k = c in
-    let b = k in
-    let q = b in
-    let s = q.args in
-    omega (arith, row_below s.part b.loop-rest.rest k.lowest_row-row.result q.requires.n b.loop-rest.invariant.0 q.requires.inside (omega arith) k.lowest_row-row.ensures, q.requires.graph.rows)
+    let s = c.args in
+    omega (arith, row_below s.part c.loop-rest.rest c.lowest_row-row.result c.requires.n c.loop-rest.invariant.0 c.requires.inside (omega arith) c.lowest_row-row.ensures, c.requires.graph.rows)
 
 pub bounds-neighbours-row : goal.bounds-neighbours-row
 bounds-neighbours-row c =
-    let k = c in
-    let b = k in
-    let q = b in
-    let s = q.args in
-    omega (arith, row_below s.part b.loop-rest.rest k.lowest_row-row.result q.requires.n b.loop-rest.invariant.0 q.requires.inside (omega arith) k.lowest_row-row.ensures, q.requires.graph.rows)
+    let s = c.args in
+    omega (arith, row_below s.part c.loop-rest.rest c.lowest_row-row.result c.requires.n c.loop-rest.invariant.0 c.requires.inside (omega arith) c.lowest_row-row.ensures, c.requires.graph.rows)
 
 pub with_row-requires : goal.with_row-requires
 with_row-requires c =
-    let k = c in
-    let b = k in
-    let q = b in
-    let s = q.args in
-    omega (arith, q.requires.bits, row_below s.part b.loop-rest.rest k.lowest_row-row.result q.requires.n b.loop-rest.invariant.0 q.requires.inside (omega arith) k.lowest_row-row.ensures)
+    let s = c.args in
+    omega (arith, c.requires.bits, row_below s.part c.loop-rest.rest c.lowest_row-row.result c.requires.n c.loop-rest.invariant.0 c.requires.inside (omega arith) c.lowest_row-row.ensures)
 
 pub with_row-common-requires : goal.with_row-common-requires
 with_row-common-requires c =
-    let k = c in
-    let b = k in
-    let q = b in
-    let s = q.args in
-    omega (arith, q.requires.bits, row_below s.part b.loop-rest.rest k.lowest_row-row.result q.requires.n b.loop-rest.invariant.0 q.requires.inside (omega arith) k.lowest_row-row.ensures)
+    let s = c.args in
+    omega (arith, c.requires.bits, row_below s.part c.loop-rest.rest c.lowest_row-row.result c.requires.n c.loop-rest.invariant.0 c.requires.inside (omega arith) c.lowest_row-row.ensures)
 
 pub loop-rest-smaller-then-is_sub : goal.loop-rest-smaller-then-is_sub
 loop-rest-smaller-then-is_sub c =
-    let w = c in
-    let b = w in
-    omega (arith, rest_less b.loop-rest.rest (omega arith), w.without_lowest-rest.ensures)
+    omega (arith, rest_less c.loop-rest.rest (omega arith), c.without_lowest-rest.ensures)
 
 pub loop-rest-preserved-then-is_sub : goal.loop-rest-preserved-then-is_sub
 loop-rest-preserved-then-is_sub c =
-    let i = c in
-    let w = i in
-    let o = w in
-    let k = o in
-    let b = k in
-    let l = b.loop-rest in
-    let s = b.args in (
-      rest_sub l.rest o.without_lowest-rest.result s.part o.without_lowest-rest.ensures l.invariant.0,
-      common_more (row_of s.neighbours.now) s.part l.common k.lowest_row-row.result w.with_row.result c.with_row-common.result l.invariant.1
-          (l.invariant.0 _ (at_lowest l.rest k.lowest_row-row.result (omega arith) k.lowest_row-row.ensures).there) w.with_row.ensures
-          (sym i.is_sub.ensures ∙ c.if-is_sub.true) c.with_row-common.ensures,
+    let l = c.loop-rest in
+    let s = c.args in (
+      rest_sub l.rest c.without_lowest-rest.result s.part c.without_lowest-rest.ensures l.invariant.0,
+      common_more (row_of s.neighbours.now) s.part l.common c.lowest_row-row.result c.with_row.result c.with_row-common.result l.invariant.1
+          (l.invariant.0 _ (at_lowest l.rest c.lowest_row-row.result (omega arith) c.lowest_row-row.ensures).there) c.with_row.ensures
+          (sym c.is_sub.ensures ∙ c.if-is_sub.true) c.with_row-common.ensures,
     )
 
 pub loop-rest-smaller : goal.loop-rest-smaller
 loop-rest-smaller c =
-    let w = c in
-    let b = w in
-    omega (arith, rest_less b.loop-rest.rest (omega arith), w.without_lowest-rest.ensures)
+    omega (arith, rest_less c.loop-rest.rest (omega arith), c.without_lowest-rest.ensures)
 
 pub loop-rest-preserved : goal.loop-rest-preserved
 loop-rest-preserved c =
-    let w = c in
-    let b = w in
-    let s = b.args in
-    (rest_sub b.loop-rest.rest w.without_lowest-rest.result s.part w.without_lowest-rest.ensures b.loop-rest.invariant.0, b.loop-rest.invariant.1)
+    let s = c.args in
+    (rest_sub c.loop-rest.rest c.without_lowest-rest.result s.part c.without_lowest-rest.ensures c.loop-rest.invariant.0, c.loop-rest.invariant.1)

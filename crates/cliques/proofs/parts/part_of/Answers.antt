@@ -7,60 +7,40 @@ use Rattle.cliques.proofs.parts.part_of.Goals as goal
 
 pub with_row-ahead-requires : goal.with_row-ahead-requires
 with_row-ahead-requires c =
-    let q = c in
-    omega (arith, lowest_inside q.args.rows c.lowest_row.result q.requires.0.n q.requires.1 c.lowest_row.ensures q.requires.0.inside, q.requires.0.bits, q.requires.0.graph.rows)
+    omega (arith, lowest_inside c.args.rows c.lowest_row.result c.requires.0.n c.requires.1 c.lowest_row.ensures c.requires.0.inside, c.requires.0.bits, c.requires.0.graph.rows)
 
 pub loop-ahead-init : goal.loop-ahead-init
 loop-ahead-init c =
-    let k = c in
-    let q = k in
-    grow_start (row_of q.args.neighbours.now) q.args.rows q.requires.1 k.lowest_row.result c.with_row-ahead.result k.lowest_row.ensures c.with_row-ahead.ensures
+    grow_start (row_of c.args.neighbours.now) c.args.rows c.requires.1 c.lowest_row.result c.with_row-ahead.result c.lowest_row.ensures c.with_row-ahead.ensures
 
 pub with_row-part-requires : goal.with_row-part-requires
 with_row-part-requires c =
-    let b = c in
-    let q = b in
-    let s = q.args in
-    omega (arith, row_below s.rows b.loop-ahead.ahead c.lowest_row-row.result q.requires.0.n b.loop-ahead.invariant.among q.requires.0.inside (omega arith) c.lowest_row-row.ensures, q.requires.0.bits, q.requires.0.graph.rows)
+    let s = c.args in
+    omega (arith, row_below s.rows c.loop-ahead.ahead c.lowest_row-row.result c.requires.0.n c.loop-ahead.invariant.among c.requires.0.inside (omega arith) c.lowest_row-row.ensures, c.requires.0.bits, c.requires.0.graph.rows)
 
 pub offset_bounds-neighbours-row : goal.offset_bounds-neighbours-row
 offset_bounds-neighbours-row c =
-    let k = c in
-    let b = k in
-    let q = b in
-    let s = q.args in
-    omega (arith, row_below s.rows b.loop-ahead.ahead k.lowest_row-row.result q.requires.0.n b.loop-ahead.invariant.among q.requires.0.inside (omega arith) k.lowest_row-row.ensures, q.requires.0.graph.rows)
+    let s = c.args in
+    omega (arith, row_below s.rows c.loop-ahead.ahead c.lowest_row-row.result c.requires.0.n c.loop-ahead.invariant.among c.requires.0.inside (omega arith) c.lowest_row-row.ensures, c.requires.0.graph.rows)
 
 pub bounds-neighbours-row : goal.bounds-neighbours-row
 bounds-neighbours-row c =
-    let k = c in
-    let b = k in
-    let q = b in
-    let s = q.args in
-    omega (arith, row_below s.rows b.loop-ahead.ahead k.lowest_row-row.result q.requires.0.n b.loop-ahead.invariant.among q.requires.0.inside (omega arith) k.lowest_row-row.ensures, q.requires.0.graph.rows)
+    let s = c.args in
+    omega (arith, row_below s.rows c.loop-ahead.ahead c.lowest_row-row.result c.requires.0.n c.loop-ahead.invariant.among c.requires.0.inside (omega arith) c.lowest_row-row.ensures, c.requires.0.graph.rows)
 
 pub loop-ahead-smaller : goal.loop-ahead-smaller
 loop-ahead-smaller c =
-    let w = c in
-    let k = w in
-    let b = k in
-    let s = b.args in
-    grow_less (row_of s.neighbours.now) s.rows b.loop-ahead.part b.loop-ahead.ahead b.loop-ahead.invariant (omega arith) k.lowest_row-row.result k.lowest_row-row.ensures
-    w.with_row-part.result w.with_row-part.ensures
+    let s = c.args in
+    grow_less (row_of s.neighbours.now) s.rows c.loop-ahead.part c.loop-ahead.ahead c.loop-ahead.invariant (omega arith) c.lowest_row-row.result c.lowest_row-row.ensures
+    c.with_row-part.result c.with_row-part.ensures
 
 pub loop-ahead-preserved : goal.loop-ahead-preserved
 loop-ahead-preserved c =
-    let m = c in
-    let u = m in
-    let w = u in
-    let k = w in
-    let b = k in
-    let s = b.args in
-    grow_turn (row_of s.neighbours.now) s.rows b.loop-ahead.part b.loop-ahead.ahead b.loop-ahead.invariant (omega arith) k.lowest_row-row.result k.lowest_row-row.ensures
-    w.with_row-part.result u.unite.result m.meet.result c.minus-ahead.result w.with_row-part.ensures u.unite.ensures m.meet.ensures c.minus-ahead.ensures
+    let s = c.args in
+    grow_turn (row_of s.neighbours.now) s.rows c.loop-ahead.part c.loop-ahead.ahead c.loop-ahead.invariant (omega arith) c.lowest_row-row.result c.lowest_row-row.ensures
+    c.with_row-part.result c.unite.result c.meet.result c.minus-ahead.result c.with_row-part.ensures c.unite.ensures c.meet.ensures c.minus-ahead.ensures
 
 pub returns : goal.returns
 returns c =
-    let b = c in
-    let s = b.args in
-    grow_end (row_of s.neighbours.now) s.rows b.loop-ahead.part b.loop-ahead.ahead b.loop-ahead.invariant (omega arith)
+    let s = c.args in
+    grow_end (row_of s.neighbours.now) s.rows c.loop-ahead.part c.loop-ahead.ahead c.loop-ahead.invariant (omega arith)

@@ -8,7 +8,7 @@ use Rattle.definitions.specs.Limits.{max_sets}
 use Rattle.cliques.specs.Search.{row_of}
 use Rattle.cliques.proofs.Run.{split_some, split_row}
 use Rattle.cliques.proofs.Turns.{turn_of, run_stops, run_lists, row_within, row_bit, asked, ready_joins, ready_leaves, ready_takes, run_joins, run_leaves, run_takes}
-use Rattle.bitsets.specs.Bits.{is_sub, word_bits}
+use Rattle.bitsets.specs.Bits.{is_sub}
 use Rattle.cliques.proofs.search.+search.Goals as goal
 
 pub returns-then-count-gt-MAX_SETS : goal.returns-then-count-gt-MAX_SETS

@@ -9,30 +9,24 @@ use Rattle.cliques.proofs.search.free_rows.Goals as goal
 
 pub offset_bounds-neighbours-lowest_row : goal.offset_bounds-neighbours-lowest_row
 offset_bounds-neighbours-lowest_row c =
-    let b = c in
-    omega (arith, lowest_inside b.loop-rest.rest c.lowest_row.result (length b.args.neighbours.now) (omega arith) c.lowest_row.ensures b.loop-rest.invariant.0)
+    omega (arith, lowest_inside c.loop-rest.rest c.lowest_row.result (length c.args.neighbours.now) (omega arith) c.lowest_row.ensures c.loop-rest.invariant.0)
 
 pub bounds-neighbours-lowest_row : goal.bounds-neighbours-lowest_row
 bounds-neighbours-lowest_row c =
-    let k = c in
-    let b = k in
-    lowest_inside b.loop-rest.rest k.lowest_row.result (length b.args.neighbours.now) (omega arith) k.lowest_row.ensures b.loop-rest.invariant.0
+    lowest_inside c.loop-rest.rest c.lowest_row.result (length c.args.neighbours.now) (omega arith) c.lowest_row.ensures c.loop-rest.invariant.0
 
 pub loop-rest-smaller : goal.loop-rest-smaller
 loop-rest-smaller c =
-    let b = c in
-    omega (arith, rest_less b.loop-rest.rest (omega arith), c.without_lowest-rest.ensures)
+    omega (arith, rest_less c.loop-rest.rest (omega arith), c.without_lowest-rest.ensures)
 
 pub loop-rest-preserved : goal.loop-rest-preserved
 loop-rest-preserved c =
-    let k = c in
-    let b = k in
-    let l = b.loop-rest in
-    let s = b.args in (
+    let l = c.loop-rest in
+    let s = c.args in (
       rest_inside l.rest c.without_lowest-rest.result (length s.neighbours.now) c.without_lowest-rest.ensures l.invariant.0,
       λ r h. l.invariant.1 r
-          (free_turn (row_of s.neighbours.now) l.rest l.word k.lowest_row.result c.without_lowest-rest.result c.meet-word.result
-          (omega arith) k.lowest_row.ensures c.without_lowest-rest.ensures c.meet-word.ensures r h),
+          (free_turn (row_of s.neighbours.now) l.rest l.word c.lowest_row.result c.without_lowest-rest.result c.meet-word.result
+          (omega arith) c.lowest_row.ensures c.without_lowest-rest.ensures c.meet-word.ensures r h),
     )
 
 pub returns : goal.returns

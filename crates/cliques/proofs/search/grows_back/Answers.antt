@@ -10,54 +10,39 @@ use Rattle.cliques.proofs.search.grows_back.Goals as goal
 
 pub has_row-requires : goal.has_row-requires
 has_row-requires c =
-    let b = c in
-    lowest_inside b.loop-rest.rest c.lowest_row-row.result word_bits (omega arith) c.lowest_row-row.ensures b.loop-rest.invariant.1
+    lowest_inside c.loop-rest.rest c.lowest_row-row.result word_bits (omega arith) c.lowest_row-row.ensures c.loop-rest.invariant.1
 
 pub returns-then-not-has_row : goal.returns-then-not-has_row
 returns-then-not-has_row c =
-    let k = c in
-    let b = k in
-    let s = b.args in
-    walk_met (row_of s.neighbours.now) s.free s.set b.loop-rest.rest b.loop-rest.invariant.2 (omega arith) k.lowest_row-row.result k.lowest_row-row.ensures
+    let s = c.args in
+    walk_met (row_of s.neighbours.now) s.free s.set c.loop-rest.rest c.loop-rest.invariant.2 (omega arith) c.lowest_row-row.result c.lowest_row-row.ensures
     (sym c.has_row.ensures ∙ c.if-not-has_row.true)
 
 pub offset_bounds-neighbours-row : goal.offset_bounds-neighbours-row
 offset_bounds-neighbours-row c =
-    let k = c in
-    let b = k in
-    omega (arith, lowest_inside b.loop-rest.rest k.lowest_row-row.result (length b.args.neighbours.now) (omega arith) k.lowest_row-row.ensures b.loop-rest.invariant.0)
+    omega (arith, lowest_inside c.loop-rest.rest c.lowest_row-row.result (length c.args.neighbours.now) (omega arith) c.lowest_row-row.ensures c.loop-rest.invariant.0)
 
 pub bounds-neighbours-row : goal.bounds-neighbours-row
 bounds-neighbours-row c =
-    let k = c in
-    let b = k in
-    lowest_inside b.loop-rest.rest k.lowest_row-row.result (length b.args.neighbours.now) (omega arith) k.lowest_row-row.ensures b.loop-rest.invariant.0
+    lowest_inside c.loop-rest.rest c.lowest_row-row.result (length c.args.neighbours.now) (omega arith) c.lowest_row-row.ensures c.loop-rest.invariant.0
 
 pub loop-rest-smaller : goal.loop-rest-smaller
 loop-rest-smaller c =
-    let w = c in
-    let b = w in
-    omega (arith, rest_less b.loop-rest.rest (omega arith), w.without_lowest.ensures, both_less w.without_lowest.result _ c.meet-rest.result c.meet-rest.ensures)
+    omega (arith, rest_less c.loop-rest.rest (omega arith), c.without_lowest.ensures, both_less c.without_lowest.result _ c.meet-rest.result c.meet-rest.ensures)
 
 pub loop-rest-preserved : goal.loop-rest-preserved
 loop-rest-preserved c =
-    let w = c in
-    let h = w in
-    let k = h in
-    let b = k in
-    let l = b.loop-rest in
-    let q = b in
-    let s = q.args in
+    let l = c.loop-rest in
+    let s = c.args in
     let N = row_of s.neighbours.now in (
-      λ j p. l.invariant.0 j (left l.rest w.without_lowest.result (N k.lowest_row-row.result) c.meet-rest.result w.without_lowest.ensures c.meet-rest.ensures j p),
-      λ j p. l.invariant.1 j (left l.rest w.without_lowest.result (N k.lowest_row-row.result) c.meet-rest.result w.without_lowest.ensures c.meet-rest.ensures j p),
-      walk_turn N s.free s.set l.rest l.invariant.2 (omega arith) k.lowest_row-row.result k.lowest_row-row.ensures q.requires.2
-          (sym h.has_row.ensures ∙ w.if-not-has_row.false) w.without_lowest.result c.meet-rest.result
-          w.without_lowest.ensures c.meet-rest.ensures,
+      λ j p. l.invariant.0 j (left l.rest c.without_lowest.result (N c.lowest_row-row.result) c.meet-rest.result c.without_lowest.ensures c.meet-rest.ensures j p),
+      λ j p. l.invariant.1 j (left l.rest c.without_lowest.result (N c.lowest_row-row.result) c.meet-rest.result c.without_lowest.ensures c.meet-rest.ensures j p),
+      walk_turn N s.free s.set l.rest l.invariant.2 (omega arith) c.lowest_row-row.result c.lowest_row-row.ensures c.requires.2
+          (sym c.has_row.ensures ∙ c.if-not-has_row.false) c.without_lowest.result c.meet-rest.result
+          c.without_lowest.ensures c.meet-rest.ensures,
     )
 
 pub returns : goal.returns
 returns c =
-    let b = c in
-    let s = b.args in
-    walk_end (row_of s.neighbours.now) s.free s.set b.loop-rest.rest b.loop-rest.invariant.2 (omega arith)
+    let s = c.args in
+    walk_end (row_of s.neighbours.now) s.free s.set c.loop-rest.rest c.loop-rest.invariant.2 (omega arith)

@@ -8,18 +8,10 @@ free_rows-free-requires c = kept_inside c.requires c.meet.result c.meet.ensures
 
 pub returns-then-meet-ne0 : goal.returns-then-meet-ne0
 returns-then-meet-ne0 c =
-    let m = c in
-    let f = m in
-    let k = f in
-    let q = k in
-    told_blocked q.requires f.free_rows-free.result k.meet.result k.meet.ensures f.free_rows-free.ensures m.meet-2.result m.meet-2.ensures
+    told_blocked c.requires c.free_rows-free.result c.meet.result c.meet.ensures c.free_rows-free.ensures c.meet-2.result c.meet-2.ensures
     (λ e. c.if-meet-ne0.true e)
 
 pub returns : goal.returns
 returns c =
-    let m = c in
-    let f = m in
-    let k = f in
-    let q = k in
-    told_walked q.requires f.free_rows-free.result k.meet.result k.meet.ensures f.free_rows-free.ensures m.meet-2.result m.meet-2.ensures
+    told_walked c.requires c.free_rows-free.result c.meet.result c.meet.ensures c.free_rows-free.ensures c.meet-2.result c.meet-2.ensures
     (omega arith) c.grows_back.result c.grows_back.ensures

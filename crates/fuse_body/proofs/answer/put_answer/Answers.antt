@@ -8,50 +8,35 @@ use Rattle.fuse_body.proofs.answer.put_answer.Goals as goal
 
 pub refused_line-requires : goal.refused_line-requires
 refused_line-requires c =
-    let s = c in
     let is = c.in-Refused.is in
-    unions_fit _ s.args.out.now _ _ _ (refused_text s.requires.fused_answer s.args.output is) s.requires.table_len.1
+    unions_fit _ c.args.out.now _ _ _ (refused_text c.requires.fused_answer c.args.output is) c.requires.table_len.1
 
 pub put_listing-requires : goal.put_listing-requires
 put_listing-requires c =
-    let told = c in
-    let s = told in
-    let is = told.in-Done.is in
-    let text = listed_text s.requires.fused_answer is c.in-Listing.is in
-    record { fused_words = listed_words s.requires.fused_answer is; table_len = (s.requires.table_len.0, unions_fit _ s.args.out.now _ _ _ text s.requires.table_len.1) }
+    let is = c.in-Done.is in
+    let text = listed_text c.requires.fused_answer is c.in-Listing.is in
+    record { fused_words = listed_words c.requires.fused_answer is; table_len = (c.requires.table_len.0, unions_fit _ c.args.out.now _ _ _ text c.requires.table_len.1) }
 
 pub slice_bounds-put_all-end : goal.slice_bounds-put_all-end
 slice_bounds-put_all-end c =
-    let told = c in
-    let s = told in
-    sym (length-take-le _ _ (table_within s.requires.fused_answer told.in-Done.is))
+    sym (length-take-le _ _ (table_within c.requires.fused_answer c.in-Done.is))
 
 pub put_all-requires : goal.put_all-requires
 put_all-requires c =
-    let told = c in
-    let s = told in
-    let is = told.in-Done.is in
-    let text = paged_text s.requires.fused_answer is c.in-Pages.is in
-    (table_passes s.requires.fused_answer is, unions_fit _ s.args.out.now _ _ _ text s.requires.table_len.1)
+    let is = c.in-Done.is in
+    let text = paged_text c.requires.fused_answer is c.in-Pages.is in
+    (table_passes c.requires.fused_answer is, unions_fit _ c.args.out.now _ _ _ text c.requires.table_len.1)
 
 pub returns-in-Refused : goal.returns-in-Refused
 returns-in-Refused c =
-    let told = c in
-    let s = told in
-    as_written (refused_text s.requires.fused_answer s.args.output told.in-Refused.is) c.refused_line.ensures
+    as_written (refused_text c.requires.fused_answer c.args.output c.in-Refused.is) c.refused_line.ensures
 
 pub returns-in-Listing : goal.returns-in-Listing
 returns-in-Listing c =
-    let listed = c in
-    let told = listed in
-    let s = told in
-    as_written (listed_text s.requires.fused_answer told.in-Done.is listed.in-Listing.is)
+    as_written (listed_text c.requires.fused_answer c.in-Done.is c.in-Listing.is)
     c.put_listing.ensures
 
 pub returns-in-Pages : goal.returns-in-Pages
 returns-in-Pages c =
-    let paged = c in
-    let told = paged in
-    let s = told in
-    as_written (paged_text s.requires.fused_answer told.in-Done.is paged.in-Pages.is)
+    as_written (paged_text c.requires.fused_answer c.in-Done.is c.in-Pages.is)
     c.put_all.ensures

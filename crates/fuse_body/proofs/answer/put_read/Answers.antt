@@ -14,30 +14,24 @@ ragged_line-requires c =
 
 pub returns-then-board-ne0 : goal.returns-then-board-ne0
 returns-then-board-ne0 c =
-    let ragged = c in
-    let s = ragged.args in
-    as_written (ragged_board s.output s.board.now s.plant.now ragged.if-board-ne0.true) c.ragged_line.ensures
+    let s = c.args in
+    as_written (ragged_board s.output s.board.now s.plant.now c.if-board-ne0.true) c.ragged_line.ensures
 
 pub ragged_line-requires-then-plant-ne0 : goal.ragged_line-requires-then-plant-ne0
 ragged_line-requires-then-plant-ne0 c =
-    let ragged = c in
-    let s = ragged.args in
-    let text = ragged_plant s.output s.board.now s.plant.now ragged.if-board-ne0.false ragged.if-plant-ne0.true in
+    let s = c.args in
+    let text = ragged_plant s.output s.board.now s.plant.now c.if-board-ne0.false c.if-plant-ne0.true in
     read_fits _ s.out.now _ _ _ text (omega arith)
 
 pub returns-then-plant-ne0 : goal.returns-then-plant-ne0
 returns-then-plant-ne0 c =
-    let ragged = c in
-    let s = ragged.args in
-    as_written (ragged_plant s.output s.board.now s.plant.now ragged.if-board-ne0.false ragged.if-plant-ne0.true)
+    let s = c.args in
+    as_written (ragged_plant s.output s.board.now s.plant.now c.if-board-ne0.false c.if-plant-ne0.true)
     c.ragged_line-then-plant-ne0.ensures
 
 pub returns : goal.returns
 returns c =
-    let second = c in
-    let first = second in
-    let whole = first in
-    let s = whole.args in
-    let words = ap₂ (unions_output s.output) first.decode-a.ensures.holds second.decode-b.ensures.holds in
-    as_written (words ∙ whole_words s.output s.board.now s.plant.now whole.if-board-ne0.false whole.if-plant-ne0.false)
+    let s = c.args in
+    let words = ap₂ (unions_output s.output) c.decode-a.ensures.holds c.decode-b.ensures.holds in
+    as_written (words ∙ whole_words s.output s.board.now s.plant.now c.if-board-ne0.false c.if-plant-ne0.false)
     c.put_images.ensures

@@ -8,23 +8,16 @@ use Rattle.fuse_body.proofs.sections.put_union.Goals as goal
 
 pub union_lines-requires : goal.union_lines-requires
 union_lines-requires c =
-    let told = c in
-    let called = told in
-    let s = called in
-    let words = union_words s.args.a.now s.args.b.now _ _ called.outer_union-answer.ensures told.in-Done.is in
-    record { has_rows = words.within; fits = omega (arith, ap length words.text, s.requires.fits) }
+    let words = union_words c.args.a.now c.args.b.now _ _ c.outer_union-answer.ensures c.in-Done.is in
+    record { has_rows = words.within; fits = omega (arith, ap length words.text, c.requires.fits) }
 
 pub returns-in-Refused : goal.returns-in-Refused
 returns-in-Refused c =
-    let called = c in
-    let s = called in
-    not_refused_outer s.args.a.now s.args.b.now s.requires.is_done _ s.requires.table_words
-    called.outer_union-answer.ensures c.in-Refused.is
+    not_refused_outer c.args.a.now c.args.b.now c.requires.is_done _ c.requires.table_words
+    c.outer_union-answer.ensures c.in-Refused.is
 
 pub returns-in-Done : goal.returns-in-Done
 returns-in-Done c =
-    let told = c in
-    let called = told in
-    let s = called.args in
-    as_written (union_words s.a.now s.b.now _ _ called.outer_union-answer.ensures told.in-Done.is).text
+    let s = c.args in
+    as_written (union_words s.a.now s.b.now _ _ c.outer_union-answer.ensures c.in-Done.is).text
     c.union_lines.ensures

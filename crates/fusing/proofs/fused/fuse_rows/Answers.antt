@@ -7,12 +7,9 @@ use Rattle.fusing.proofs.fused.fuse_rows.Goals as goal
 
 pub returns : goal.returns
 returns c =
-    let o = c in
-    let j = o in
-    let s = j in
-    let room = s.requires.room_for in
-    let e = o.order_rows-m.ensures in
-    let words = s.args.column_words.now in
-    fused_of words (rows_in (length words) s.args.n s.args.cells.now) (length words) (length s.args.list.now) _ _ _
-    j.join_sets.ensures e.1 _ _ (omega (arith, room.rows, c.join_sets.auto.out)) e.0 (omega (arith, e.0, room.indices, c.order_rows-m.auto.order))
+    let room = c.requires.room_for in
+    let e = c.order_rows-m.ensures in
+    let words = c.args.column_words.now in
+    fused_of words (rows_in (length words) c.args.n c.args.cells.now) (length words) (length c.args.list.now) _ _ _
+    c.join_sets.ensures e.1 _ _ (omega (arith, room.rows, c.join_sets.auto.out)) e.0 (omega (arith, e.0, room.indices, c.order_rows-m.auto.order))
     c.find_positions.ensures

@@ -5,14 +5,11 @@ use Rattle.fusing.proofs.fused.list_sets.Goals as goal
 
 pub find_sets-requires : goal.find_sets-requires
 find_sets-requires c =
-    let n = c in
-    let q = n in
-    let s = q.args in
-    (graph_for s.column_words.now (length s.column_words.now) s.n s.cells.now _ n.fill_neighbours.ensures, q.requires.0.few, q.requires.2)
+    let s = c.args in
+    (graph_for s.column_words.now (length s.column_words.now) s.n s.cells.now _ c.fill_neighbours.ensures, c.requires.0.few, c.requires.2)
 
 pub returns : goal.returns
 returns c =
-    let n = c in
-    let s = n.args in
+    let s = c.args in
     let f = c.find_sets.ensures in
-    (f.0, sets_of s.column_words.now (length s.column_words.now) s.n _ s.cells.now _ _ n.fill_neighbours.ensures f.1)
+    (f.0, sets_of s.column_words.now (length s.column_words.now) s.n _ s.cells.now _ _ c.fill_neighbours.ensures f.1)

@@ -20,18 +20,16 @@ module _ (c : After-crossing) where
 pub loop-j-preserved : goal.loop-j-preserved
 loop-j-preserved c =
     let f = c.crossing in
-    let i = c in
-    let l = i.loop-j in
-    let q = i in
-    let s = q.args in
-    let seen = rows_seen s.column_words.now s.n s.cells.now s.columns.now s.counted.now q.requires.0.few q.requires.0.fits
-    q.requires.0.filled q.requires.1 in
+    let l = c.loop-j in
+    let s = c.args in
+    let seen = rows_seen s.column_words.now s.n s.cells.now s.columns.now s.counted.now c.requires.0.few c.requires.0.fits
+    c.requires.0.filled c.requires.1 in
     record {
       few = omega arith;
-      here = next_at i;
+      here = next_at c;
       size = length-set l.neighbours l.j f.result ∙ l.invariant.size;
       crossed = crossing_turn s.column_words.now s.n l.j l.at s.cells.now s.columns.now s.counted.now l.neighbours
-          f.result seen q.requires.0.fits i.loop-j-test.true l.invariant.here (omega (arith, l.invariant.size, q.requires.2)) f.ensures
+          f.result seen c.requires.0.fits c.loop-j-test.true l.invariant.here (omega (arith, l.invariant.size, c.requires.2)) f.ensures
           l.invariant.crossed;
     }
 

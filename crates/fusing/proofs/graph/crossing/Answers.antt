@@ -21,18 +21,17 @@ loop-c-init c =
 
 pub loop-c-preserved : goal.loop-c-preserved
 loop-c-preserved c =
-    let b = c in
-    let a = b.args in
-    let l = b.loop-c in
+    let a = c.args in
+    let l = c.loop-c in
     let f = get_or a.columns.now l.c 0 in
     let n = get_or a.counted.now l.c 0 in
-    let e = b.blank-empty.result in
+    let e = c.blank-empty.result in
     record {
       in_row = search rules;
       above_fits = omega (arith, and_le_l l.above (bit_or f e), l.invariant.above_fits);
       within_fits = omega (arith, and_le_l l.within (2 ^ word_bits - 1 - bit_and f e), l.invariant.within_fits);
       passed = passed_turn a.row.now a.columns.now a.counted.now l.c l.shared l.above l.within f n e (search rules)
-          (omega (arith, c.type_inv.counted l.c)) refl refl b.blank-empty.ensures l.invariant.passed;
+          (omega (arith, c.type_inv.counted l.c)) refl refl c.blank-empty.ensures l.invariant.passed;
     }
 
 pub returns : goal.returns

@@ -8,10 +8,9 @@ use Rattle.fusing.proofs.graph.fill_neighbours.Goals as goal
 
 pub returns : goal.returns
 returns c =
-    let s = c in
-    let a = s.args in
+    let a = c.args in
     let words = a.column_words.now in
     let x = c.cross_rows in
     let n = c.narrow_columns in
     graph_of words (rows_in (length words) a.n a.cells.now) _ _ x.ensures n.ensures
-    (omega (arith, rows_length (length words) a.n a.cells.now, n.auto.neighbours, x.auto.neighbours, s.requires.2))
+    (omega (arith, rows_length (length words) a.n a.cells.now, n.auto.neighbours, x.auto.neighbours, c.requires.2))

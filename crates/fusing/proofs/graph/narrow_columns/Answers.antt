@@ -22,13 +22,11 @@ group_rows-requires c =
       filled_within (rows_in s.width s.n s.cells.now) c.loop-c.c k (ap (λ (x : ℕ). has x k) (sym word) ∙ h),
       rows_length s.width s.n s.cells.now,
     ) in
-    let i = c in
-    let l = i.loop-c in
-    let q = i in
-    let s = q.args in (
-      columns_within s.width s.n s.cells.now s.columns.now q.requires.0.fits q.requires.0.filled l.c i.loop-c-test.true,
-      λ k h. omega (arith, below k h, l.invariant.leader_words, q.requires.0.few),
-      λ k h. omega (arith, below k h, l.invariant.equal_words, q.requires.0.few),
+    let l = c.loop-c in
+    let s = c.args in (
+      columns_within s.width s.n s.cells.now s.columns.now c.requires.0.fits c.requires.0.filled l.c c.loop-c-test.true,
+      λ k h. omega (arith, below k h, l.invariant.leader_words, c.requires.0.few),
+      λ k h. omega (arith, below k h, l.invariant.equal_words, c.requires.0.few),
     )
 
 pub narrow_rows-requires : goal.narrow_rows-requires
@@ -40,36 +38,28 @@ narrow_rows-requires c =
       filled_within (rows_in s.width s.n s.cells.now) c.loop-c.c k (ap (λ (x : ℕ). has x k) (sym word) ∙ h),
       rows_length s.width s.n s.cells.now,
     ) in
-    let g = c in
-    let i = g in
-    let l = i.loop-c in
-    let q = i in (
-      g.group_rows.ensures.led,
-      λ k h. omega (arith, below k h, g.group_rows.auto.leaders, l.invariant.leader_words, q.requires.0.few),
-      λ k h. omega (arith, below k h, l.invariant.size, q.requires.1),
+    let l = c.loop-c in (
+      c.group_rows.ensures.led,
+      λ k h. omega (arith, below k h, c.group_rows.auto.leaders, l.invariant.leader_words, c.requires.0.few),
+      λ k h. omega (arith, below k h, l.invariant.size, c.requires.1),
     )
 
 pub loop-c-preserved : goal.loop-c-preserved
 loop-c-preserved c =
-    let n = c in
-    let g = n in
-    let i = g in
-    let l = i.loop-c in
-    let q = i in
-    let s = q.args in
+    let l = c.loop-c in
+    let s = c.args in
     record {
       within = search rules;
-      leader_words = g.group_rows.auto.leaders ∙ l.invariant.leader_words;
-      equal_words = g.group_rows.auto.equal ∙ l.invariant.equal_words;
-      size = n.narrow_rows.auto.neighbours ∙ l.invariant.size;
-      narrowed = narrowed_turn s.width s.n s.cells.now s.columns.now s.neighbours.now q.requires.0.few q.requires.0.fits q.requires.0.filled
-          l.c _ _ _ l.neighbours _ i.loop-c-test.true refl g.group_rows.ensures n.narrow_rows.ensures l.invariant.narrowed;
+      leader_words = c.group_rows.auto.leaders ∙ l.invariant.leader_words;
+      equal_words = c.group_rows.auto.equal ∙ l.invariant.equal_words;
+      size = c.narrow_rows.auto.neighbours ∙ l.invariant.size;
+      narrowed = narrowed_turn s.width s.n s.cells.now s.columns.now s.neighbours.now c.requires.0.few c.requires.0.fits c.requires.0.filled
+          l.c _ _ _ l.neighbours _ c.loop-c-test.true refl c.group_rows.ensures c.narrow_rows.ensures l.invariant.narrowed;
     }
 
 pub returns : goal.returns
 returns c =
     let l = c.loop-c in
-    let q = c in
-    let s = q.args in
-    narrowed_end s.width s.n s.cells.now s.columns.now s.neighbours.now q.requires.0.few q.requires.0.fits q.requires.0.filled
+    let s = c.args in
+    narrowed_end s.width s.n s.cells.now s.columns.now s.neighbours.now c.requires.0.few c.requires.0.fits c.requires.0.filled
     l.c l.neighbours (search rules) l.invariant.narrowed

@@ -60,9 +60,8 @@ loop-rest-preserved c =
     let lowest_of : Lowest c.loop-rest.rest row = trailing_lowest word_bits c.loop-rest.rest c.loop-rest-test.true c.loop-rest.invariant.0 in
     let filled_row : has c.args.filled row ≡ true = c.loop-rest.invariant.1.among row lowest_of.there in
     let found : row < length c.args.neighbours.now = c.requires.2 row filled_row in
-    let i = c in
-    let l = i.loop-rest in
-    let s = i.args in (
+    let l = c.loop-rest in
+    let s = c.args in (
       omega (arith, and_le_r l.rest (l.rest - 1), l.invariant.0),
       narrow_turn s.filled s.leaders.now s.equal.now s.neighbours.now l.rest row l.neighbours lowest_of found l.invariant.1,
     )

@@ -42,19 +42,16 @@ pub returns-then-cells-k : goal.returns-then-cells-k
 returns-then-cells-k c =
     let row : ℕ = count_trailing_zeros word_bits c.loop-rest.rest in
     let lowest_of : Lowest c.loop-rest.rest row = trailing_lowest word_bits c.loop-rest.rest c.loop-rest-test.true c.loop-rest.invariant.0 in
-    let i = c in
-    let l = i.loop-rest in
-    let q = i in
-    let s = q.args in
-    seek_found (cell_at s.width s.cells.now s.c) s.cell s.rows s.j l.rest row q.requires.1 lowest_of c.if-cells-k.true l.invariant.1
+    let l = c.loop-rest in
+    let s = c.args in
+    seek_found (cell_at s.width s.cells.now s.c) s.cell s.rows s.j l.rest row c.requires.1 lowest_of c.if-cells-k.true l.invariant.1
 
 pub loop-rest-preserved : goal.loop-rest-preserved
 loop-rest-preserved c =
     let row : ℕ = count_trailing_zeros word_bits c.loop-rest.rest in
     let lowest_of : Lowest c.loop-rest.rest row = trailing_lowest word_bits c.loop-rest.rest c.loop-rest-test.true c.loop-rest.invariant.0 in
-    let i = c in
-    let l = i.loop-rest in
-    let s = i.args in (
+    let l = c.loop-rest in
+    let s = c.args in (
       omega (arith, and_le_r l.rest (l.rest - 1), l.invariant.0),
       seek_turn (cell_at s.width s.cells.now s.c) s.cell s.rows l.rest row lowest_of c.if-cells-k.false l.invariant.1,
     )

@@ -21,19 +21,17 @@ pub pick_cell-requires : goal.pick_cell-requires
 unfolding both
 pick_cell-requires c =
     let i = c.loop-i.i in
-    let q = c in
-    λ k h. q.requires.1 i (search rules) k (both_r q.args.set (get_or q.args.columns.now i 0) k h)
+    λ k h. c.requires.1 i (search rules) k (both_r c.args.set (get_or c.args.columns.now i 0) k h)
 
 pub loop-i-preserved : goal.loop-i-preserved
 loop-i-preserved c =
     let l = c.loop-i in
-    let q = c in
-    let s = q.args in
+    let s = c.args in
     let row = picked s.width s.cells.now s.set s.columns.now in
     let size : length row ≡ s.width =
-    picks_length s.width s.cells.now s.set 0 (take s.width s.columns.now) ∙ length-take-le s.width s.columns.now q.requires.0 in
+    picks_length s.width s.cells.now s.set 0 (take s.width s.columns.now) ∙ length-take-le s.width s.columns.now c.requires.0 in
     let more : l.i < s.width = search rules in (
       search rules,
       paste_turn s.out.now s.at row l.i (s.at + l.i) l.out 0 c.pick_cell.result l.invariant.1 refl (omega arith) (omega arith)
-          (c.pick_cell.ensures ∙ sym (picks_at s.width s.cells.now s.set s.columns.now l.i q.requires.0 more)),
+          (c.pick_cell.ensures ∙ sym (picks_at s.width s.cells.now s.set s.columns.now l.i c.requires.0 more)),
     )

@@ -10,47 +10,39 @@ use Rattle.fusing.proofs.positions.find_positions.Goals as goal
 
 pub position_of-requires : goal.position_of-requires
 position_of-requires c =
-    let i = c in
-    let l = i.loop-k in
-    let q = i in
-    let s = q.args in
+    let l = c.loop-k in
+    let s = c.args in
     let named = take s.m s.order.now in (
       search rules,
-      position_listed s.width s.count s.cells.now named q.requires.0.fits q.requires.0.ordered l.k l.at (search rules) l.invariant.1,
-      position_member s.width s.count s.cells.now named q.requires.0.fits q.requires.0.ordered l.k l.at (search rules) l.invariant.1,
+      position_listed s.width s.count s.cells.now named c.requires.0.fits c.requires.0.ordered l.k l.at (search rules) l.invariant.1,
+      position_member s.width s.count s.cells.now named c.requires.0.fits c.requires.0.ordered l.k l.at (search rules) l.invariant.1,
     )
 
 pub loop-k-preserved-then-positions-k : goal.loop-k-preserved-then-positions-k
 loop-k-preserved-then-positions-k c =
     let next_at : c.loop-k.at + c.args.width ≡ (c.loop-k.k + 1) * c.args.width = omega (arith, c.loop-k.invariant.1, add-mul c.loop-k.k 1 c.args.width, one-mul c.args.width) in
-    let i = c in
-    let l = i.loop-k in
-    let q = i in
-    let s = q.args in (
+    let l = c.loop-k in
+    let s = c.args in (
       search rules,
       next_at,
-      positions_turn s.width s.count s.cells.now (take s.m s.order.now) q.requires.0.fits q.requires.0.ordered l.k l.at (search rules) l.invariant.1
-          _ l.positions c.position_of.result (omega (arith, i.fill_own.ensures.size, q.requires.1)) c.position_of.ensures.0 l.invariant.2,
+      positions_turn s.width s.count s.cells.now (take s.m s.order.now) c.requires.0.fits c.requires.0.ordered l.k l.at (search rules) l.invariant.1
+          _ l.positions c.position_of.result (omega (arith, c.fill_own.ensures.size, c.requires.1)) c.position_of.ensures.0 l.invariant.2,
     )
 
 pub loop-k-preserved : goal.loop-k-preserved
 loop-k-preserved c =
     let next_at : c.loop-k.at + c.args.width ≡ (c.loop-k.k + 1) * c.args.width = omega (arith, c.loop-k.invariant.1, add-mul c.loop-k.k 1 c.args.width, one-mul c.args.width) in
-    let i = c in
-    let l = i.loop-k in
-    let q = i in
-    let s = q.args in (
+    let l = c.loop-k in
+    let s = c.args in (
       search rules,
       next_at,
-      positions_stay s.width s.count s.cells.now s.order.now s.m q.requires.0.fits q.requires.0.ordered q.requires.0.within l.k (search rules)
-          _ _ l.positions q.requires.1 i.fill_own.ensures c.if-positions-k.false l.invariant.2,
+      positions_stay s.width s.count s.cells.now s.order.now s.m c.requires.0.fits c.requires.0.ordered c.requires.0.within l.k (search rules)
+          _ _ l.positions c.requires.1 c.fill_own.ensures c.if-positions-k.false l.invariant.2,
     )
 
 pub returns : goal.returns
 returns c =
     let l = c.loop-k in
-    let k = c in
-    let q = k in
-    let s = q.args in
-    positions_end s.width s.count s.cells.now (take s.m s.order.now) q.requires.0.fits q.requires.0.ordered s.positions.now _ l.positions l.k (omega arith)
-    k.fill_own.ensures.rest l.invariant.2
+    let s = c.args in
+    positions_end s.width s.count s.cells.now (take s.m s.order.now) c.requires.0.fits c.requires.0.ordered s.positions.now _ l.positions l.k (omega arith)
+    c.fill_own.ensures.rest l.invariant.2

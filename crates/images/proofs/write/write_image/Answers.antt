@@ -4,9 +4,6 @@ use Rattle.images.proofs.write.write_image.Goals as goal
 
 pub returns : goal.returns
 returns c =
-    let r = c in
-    let h = r in
-    let q = h in
-    let s = q.args in
-    image_rows_written q.requires.0 s.buffer.now _ _ q.requires.1 h.write_head.ensures r.write_rows.ensures _
+    let s = c.args in
+    image_rows_written c.requires.0 s.buffer.now _ _ c.requires.1 c.write_head.ensures c.write_rows.ensures _
     c.count_rows.ensures

@@ -12,9 +12,7 @@ put_text-end-requires c = omega (arith, simp length-append at (ap length (ids_te
 
 pub loop-i-init : goal.loop-i-init
 loop-i-init c =
-    let titled = c in
-    let s = titled in
-    let room = behind_fits _ (ids_text s.args.columns.now) s.requires titled.put_text-end.ensures in
+    let room = behind_fits _ (ids_text c.args.columns.now) c.requires c.put_text-end.ensures in
     fields_start id_text _ 0 (omega arith) room
 
 pub loop-i-preserved : goal.loop-i-preserved
@@ -22,7 +20,5 @@ loop-i-preserved c = field_turn c.loop-i.invariant (omega arith) c.next_id-end.e
 
 pub returns : goal.returns
 returns c =
-    let written = c in
-    let titled = written in
-    let rest = line_ends written.loop-i.invariant (omega arith) c.put_byte.ensures in
-    as_written (sym (ids_text titled.args.columns.now)) (then_written titled.put_text-end.ensures rest)
+    let rest = line_ends c.loop-i.invariant (omega arith) c.put_byte.ensures in
+    as_written (sym (ids_text c.args.columns.now)) (then_written c.put_text-end.ensures rest)

@@ -8,13 +8,11 @@ use Rattle.listing.proofs.lines.ragged_line.Goals as goal
 
 pub text_field-end-requires : goal.text_field-end-requires
 text_field-end-requires c =
-    let s = c in
-    omega (arith, simp length-append at (ap length (ragged_text s.args.name.now)))
+    omega (arith, simp length-append at (ap length (ragged_text c.args.name.now)))
 
 pub title_line-requires : goal.title_line-requires
 title_line-requires c = behind_fits _ (ragged_text _) c.requires c.text_field-end.ensures
 
 pub returns : goal.returns
 returns c =
-    let begun = c in
-    as_written (sym (ragged_text _)) (then_written begun.text_field-end.ensures c.title_line.ensures)
+    as_written (sym (ragged_text _)) (then_written c.text_field-end.ensures c.title_line.ensures)

@@ -8,23 +8,19 @@ use Rattle.listing.proofs.lines.refused_line.Goals as goal
 
 pub text_field-end-requires : goal.text_field-end-requires
 text_field-end-requires c =
-    let s = c in
-    omega (arith, simp length-append at (ap length (refused_text s.args.number s.args.table)))
+    omega (arith, simp length-append at (ap length (refused_text c.args.number c.args.table)))
 
 pub number_field-end-requires : goal.number_field-end-requires
 number_field-end-requires c =
-    let begun = c in
-    let room = behind_fits _ (refused_text _ _) begun.requires begun.text_field-end.ensures in
+    let room = behind_fits _ (refused_text _ _) c.requires c.text_field-end.ensures in
     omega (arith, simp length-append at room)
 
 pub title_line-requires : goal.title_line-requires
 title_line-requires c =
-    let begun = c in
-    let room = behind_fits _ (refused_text _ _) begun.requires begun.text_field-end.ensures in
+    let room = behind_fits _ (refused_text _ _) c.requires c.text_field-end.ensures in
     behind_fits _ refl room c.number_field-end.ensures
 
 pub returns : goal.returns
 returns c =
-    let numbered = c in
-    let rest = then_written numbered.number_field-end.ensures c.title_line.ensures in
-    as_written (sym (refused_text _ _)) (then_written numbered.text_field-end.ensures rest)
+    let rest = then_written c.number_field-end.ensures c.title_line.ensures in
+    as_written (sym (refused_text _ _)) (then_written c.text_field-end.ensures rest)

@@ -12,8 +12,7 @@ put_byte-requires c = omega (arith, ap length (no_fields cell_text c.args.cells.
 
 pub returns-then-cells-eq0 : goal.returns-then-cells-eq0
 returns-then-cells-eq0 c =
-    let none = c in
-    let text = no_fields cell_text none.args.cells.now none.if-cells-eq0.true in
+    let text = no_fields cell_text c.args.cells.now c.if-cells-eq0.true in
     as_written (sym text) c.put_byte.ensures
 
 pub put_cell-end-requires : goal.put_cell-end-requires
@@ -23,20 +22,16 @@ put_cell-end-requires c =
 
 pub loop-i-init : goal.loop-i-init
 loop-i-init c =
-    let begun = c in
-    let s = begun in
-    let some = some_fields cell_text s.args.cells.now (omega (arith, begun.if-cells-eq0.false)) in
-    let room = behind_fits _ some s.requires begun.put_cell-end.ensures in
-    fields_start cell_text _ 1 (omega (arith, begun.if-cells-eq0.false)) room
+    let some = some_fields cell_text c.args.cells.now (omega (arith, c.if-cells-eq0.false)) in
+    let room = behind_fits _ some c.requires c.put_cell-end.ensures in
+    fields_start cell_text _ 1 (omega (arith, c.if-cells-eq0.false)) room
 
 pub loop-i-preserved : goal.loop-i-preserved
 loop-i-preserved c = field_turn c.loop-i.invariant (omega arith) c.next_cell-end.ensures
 
 pub returns : goal.returns
 returns c =
-    let written = c in
-    let begun = written in
-    let s = begun.args in
-    let some = some_fields cell_text s.cells.now (omega (arith, begun.if-cells-eq0.false)) in
-    let rest = line_ends written.loop-i.invariant (omega arith) c.put_byte-2.ensures in
-    as_written (sym some) (then_written begun.put_cell-end.ensures rest)
+    let s = c.args in
+    let some = some_fields cell_text s.cells.now (omega (arith, c.if-cells-eq0.false)) in
+    let rest = line_ends c.loop-i.invariant (omega arith) c.put_byte-2.ensures in
+    as_written (sym some) (then_written c.put_cell-end.ensures rest)

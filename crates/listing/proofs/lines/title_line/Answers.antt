@@ -13,8 +13,7 @@ put_text-end-requires c = omega (arith, simp (line_first, length-append) at c.re
 
 pub loop-i-init : goal.loop-i-init
 loop-i-init c =
-    let titled = c in
-    let room = behind_fits _ (line_first _ _) titled.requires titled.put_text-end.ensures in
+    let room = behind_fits _ (line_first _ _) c.requires c.put_text-end.ensures in
     fields_start decimal _ 0 (omega arith) room
 
 pub loop-i-preserved : goal.loop-i-preserved
@@ -22,6 +21,5 @@ loop-i-preserved c = field_turn c.loop-i.invariant (omega arith) c.next_number-e
 
 pub returns : goal.returns
 returns c =
-    let written = c in
-    let rest = line_ends written.loop-i.invariant (omega arith) c.put_byte.ensures in
-    as_written (sym (line_first _ _)) (then_written written.put_text-end.ensures rest)
+    let rest = line_ends c.loop-i.invariant (omega arith) c.put_byte.ensures in
+    as_written (sym (line_first _ _)) (then_written c.put_text-end.ensures rest)

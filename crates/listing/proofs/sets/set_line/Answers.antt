@@ -8,17 +8,14 @@ use Rattle.listing.proofs.sets.set_line.Goals as goal
 
 pub put_positions-end-requires : goal.put_positions-end-requires
 put_positions-end-requires c =
-    let s = c in
-    record { set_len = s.requires.set_len; fits = omega (arith, simp length-append at (ap length (record_text s.args.set.now _ refl))) }
+    record { set_len = c.requires.set_len; fits = omega (arith, simp length-append at (ap length (record_text c.args.set.now _ refl))) }
 
 pub title_line-requires : goal.title_line-requires
 title_line-requires c =
-    let s = c in
-    let text = record_text s.args.set.now _ c.low_bits-position.ensures in
-    behind_fits _ text s.requires.fits c.put_positions-end.ensures
+    let text = record_text c.args.set.now _ c.low_bits-position.ensures in
+    behind_fits _ text c.requires.fits c.put_positions-end.ensures
 
 pub returns : goal.returns
 returns c =
-    let begun = c in
-    let text = record_text begun.args.set.now _ c.low_bits-position.ensures in
-    as_written (sym text) (then_written begun.put_positions-end.ensures c.title_line.ensures)
+    let text = record_text c.args.set.now _ c.low_bits-position.ensures in
+    as_written (sym text) (then_written c.put_positions-end.ensures c.title_line.ensures)

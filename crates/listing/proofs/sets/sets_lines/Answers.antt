@@ -6,6 +6,5 @@ use Rattle.listing.proofs.sets.sets_lines.Goals as goal
 
 pub returns : goal.returns
 returns c =
-    let titled = c in
-    as_written (sym (list_text titled.args.list.now _))
-    (then_written titled.title_line-end.ensures c.record_lines.ensures)
+    as_written (sym (list_text c.args.list.now _))
+    (then_written c.title_line-end.ensures c.record_lines.ensures)

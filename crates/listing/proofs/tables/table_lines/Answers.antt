@@ -7,9 +7,7 @@ use Rattle.listing.proofs.tables.table_lines.Goals as goal
 
 pub returns : goal.returns
 returns c =
-    let titled = c in
-    let counted = titled in
-    let s = counted.args in
+    let s = c.args in
     let title = title_line s.title.now s.numbers.now in
-    as_written (sym (table_text s.image.now s.rows _ counted.columns-columns.ensures title))
-    (then_written titled.title_line-end.ensures c.row_lines.ensures)
+    as_written (sym (table_text s.image.now s.rows _ c.columns-columns.ensures title))
+    (then_written c.title_line-end.ensures c.row_lines.ensures)

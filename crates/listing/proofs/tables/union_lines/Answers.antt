@@ -6,8 +6,7 @@ use Rattle.listing.proofs.tables.union_lines.Goals as goal
 
 pub returns : goal.returns
 returns c =
-    let begun = c in
-    let s = begun.args in
-    let count = begun.columns.ensures in
+    let s = c.args in
+    let count = c.columns.ensures in
     as_written (sym (union_text_lem s.image.now s.rows _ count s.filled))
-    (then_written begun.columns_line-end.ensures c.table_lines.ensures)
+    (then_written c.columns_line-end.ensures c.table_lines.ensures)

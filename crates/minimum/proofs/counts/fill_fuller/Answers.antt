@@ -15,9 +15,8 @@ loop-k-init c =
 pub loop-k-preserved : goal.loop-k-preserved
 loop-k-preserved c =
     let small : (j : ℕ) → get_or c.args.counts.now j 0 < length c.rows_by_count.new.words = λ j. omega (arith, c.requires.counts_len_bound.1 j, c.rows_by_count.auto.words) in
-    let l = c in
-    let a = l.args in (
+    let a = c.args in (
       search rules,
-      fuller_turn a.counts.now l.rows_by_count.new.words small l.rows_by_count.ensures l.loop-k.k l.loop-k.fuller l.loop-k.words (search rules) (search rules)
-          l.loop-k.invariant.1,
+      fuller_turn a.counts.now c.rows_by_count.new.words small c.rows_by_count.ensures c.loop-k.k c.loop-k.fuller c.loop-k.words (search rules) (search rules)
+          c.loop-k.invariant.1,
     )

@@ -19,10 +19,9 @@ loop-j-init c =
 
 pub loop-j-preserved : goal.loop-j-preserved
 loop-j-preserved c =
-    let i = c in
-    let l = i.loop-j in
-    let a = i.args in (
+    let l = c.loop-j in
+    let a = c.args in (
       search rules,
       length-set l.words (get_or a.counts.now l.j 0) _ ∙ l.invariant.1,
-      equal_turn a.counts.now l.words l.j (omega (arith, i.requires.counts_len_bound.0)) (word_there i) l.invariant.2,
+      equal_turn a.counts.now l.words l.j (omega (arith, c.requires.counts_len_bound.0)) (word_there c) l.invariant.2,
     )

@@ -4,13 +4,9 @@ use Rattle.pages.proofs.all.put_next.Goals as goal
 
 pub returns-in-Refused : goal.returns-in-Refused
 returns-in-Refused c =
-    let told = c in
-    let s = told in
-    not_refused s.args.image.now s.args.n _ _ s.requires.0 s.requires.1 (part_room s.args.out.now s.args.at s.requires.2)
-    told.page-answer.result told.page-answer.ensures _ _ c.in-Refused.is
+    not_refused c.args.image.now c.args.n _ _ c.requires.0 c.requires.1 (part_room c.args.out.now c.args.at c.requires.2)
+    c.page-answer.result c.page-answer.ensures _ _ c.in-Refused.is
 
 pub returns-in-Done : goal.returns-in-Done
 returns-in-Done c =
-    let told = c in
-    let s = told in
-    page_behind s.args.image.now s.args.n s.args.out.now s.args.at s.requires.0 s.requires.1 s.requires.2 told.page-answer.result _ told.page-answer.ensures
+    page_behind c.args.image.now c.args.n c.args.out.now c.args.at c.requires.0 c.requires.1 c.requires.2 c.page-answer.result _ c.page-answer.ensures

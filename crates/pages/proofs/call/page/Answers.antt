@@ -23,16 +23,14 @@ count_pages-pages-requires c =
 pub returns-then-pages-n : goal.returns-then-pages-n
 returns-then-pages-n c =
     let accepted : image_number max_stored_rows c.args.image.now ≡ 0 = sym c.check_image-number.ensures ∙ c.if-number-ne0.false in
-    let e = c in
-    let s = e.args in
+    let s = c.args in
     no-page s.image.now s.page s.bytes.now accepted (omega (arith, c.count_pages-pages.ensures, c.if-pages-n.true))
 
 pub returns-then-bytes-lt-PAGE_BYTES : goal.returns-then-bytes-lt-PAGE_BYTES
 returns-then-bytes-lt-PAGE_BYTES c =
     let accepted : image_number max_stored_rows c.args.image.now ≡ 0 = sym c.check_image-number.ensures ∙ c.if-number-ne0.false in
     let exists : c.args.page < page_count c.args.image.now = omega (arith, c.count_pages-pages.ensures, c.if-pages-n.false) in
-    let e = c in
-    let s = e.args in
+    let s = c.args in
     short_bytes s.image.now s.page s.bytes.now accepted exists (omega arith)
 
 pub band_pages-parts-requires : goal.band_pages-parts-requires
@@ -44,8 +42,7 @@ pub put_page-requires : goal.put_page-requires
 put_page-requires c =
     let accepted : image_number max_stored_rows c.args.image.now ≡ 0 = sym c.check_image-number.ensures ∙ c.if-number-ne0.false in
     let exists : c.args.page < page_count c.args.image.now = omega (arith, c.count_pages-pages.ensures, c.if-pages-n.false) in
-    let e = c in
-    let s = e.args in
+    let s = c.args in
     rw c.band_pages-parts.ensures (
       has_band s.image.now s.page s.bytes.now accepted exists,
       small_part s.image.now s.page s.bytes.now accepted exists,
@@ -56,9 +53,6 @@ pub returns : goal.returns
 returns c =
     let accepted : image_number max_stored_rows c.args.image.now ≡ 0 = sym c.check_image-number.ensures ∙ c.if-number-ne0.false in
     let exists : c.args.page < page_count c.args.image.now = omega (arith, c.count_pages-pages.ensures, c.if-pages-n.false) in
-    let called = c in
-    let parts = called in
-    let e = parts in
-    let s = e.args in
-    done_page s.image.now s.page s.bytes.now accepted exists _ e.count_pages-pages.ensures _ _ (omega arith)
-    (as_written (ap (λ (k : ℕ). band_page s.image.now (s.page / k) (s.page % k)) parts.band_pages-parts.ensures) called.put_page.ensures)
+    let s = c.args in
+    done_page s.image.now s.page s.bytes.now accepted exists _ c.count_pages-pages.ensures _ _ (omega arith)
+    (as_written (ap (λ (k : ℕ). band_page s.image.now (s.page / k) (s.page % k)) c.band_pages-parts.ensures) c.put_page.ensures)

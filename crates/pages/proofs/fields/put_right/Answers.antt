@@ -4,5 +4,4 @@ use Rattle.pages.proofs.fields.put_right.Goals as goal
 
 pub returns : goal.returns
 returns c =
-    let last = c in
-    then_written last.put_blanks-start.ensures last.put_text.ensures
+    then_written c.put_blanks-start.ensures c.put_text.ensures

@@ -18,11 +18,7 @@ module _ (c : After-slice_known-2-1) where
 
 pub returns : goal.returns
 returns c =
-    let called = c in
-    let end = called in
-    let cols = end in
-    let s = cols in
-    let part = row_part cols.args.image.now s.args.band cols.columns-columns.result end.band_end.result cols.args.position cols.columns-columns.ensures
-    end.band_end.ensures s.requires.0.starts (more cols) in
-    as_written (ap (λ (l : List ℕ). page_line (decimal cols.args.position) (map cell_text l)) part ∙ row_at cols.args.image.now s.args.band cols.args.position (more cols))
-    called.row_line.ensures
+    let part = row_part c.args.image.now c.args.band c.columns-columns.result c.band_end.result c.args.position c.columns-columns.ensures
+    c.band_end.ensures c.requires.0.starts (more c) in
+    as_written (ap (λ (l : List ℕ). page_line (decimal c.args.position) (map cell_text l)) part ∙ row_at c.args.image.now c.args.band c.args.position (more c))
+    c.row_line.ensures

@@ -17,15 +17,13 @@ loop-i-init c =
     ≡ ids_line c.args.image.now c.args.band = let cols = c in
     ap (λ (l : List ℕ). page_line [] (map id_text l))
     (columns_part c.args.image.now c.args.band cols.columns.result c.band_end-stop.result cols.columns.ensures c.band_end-stop.ensures c.requires.0.starts) in
-    let s = c in
     let ids = as_written first c.id_line-end.ensures in
-    texts_start (line_on s.args.image.now s.args.band s.args.part) page_rows _ _
-    (rows_room s.args.image.now s.args.band s.args.part ids s.requires.2)
+    texts_start (line_on c.args.image.now c.args.band c.args.part) page_rows _ _
+    (rows_room c.args.image.now c.args.band c.args.part ids c.requires.2)
 
 pub put_line-end-requires : goal.put_line-end-requires
 put_line-end-requires c =
-    let s = c in
-    (s.requires.0, line_room s.args.image.now s.args.band s.args.part c.loop-i.invariant (omega arith))
+    (c.requires.0, line_room c.args.image.now c.args.band c.args.part c.loop-i.invariant (omega arith))
 
 pub loop-i-preserved : goal.loop-i-preserved
 loop-i-preserved c = text_turn c.loop-i.invariant (omega arith) c.put_line-end.ensures
@@ -36,7 +34,6 @@ returns c =
     ≡ ids_line c.args.image.now c.args.band = let cols = c in
     ap (λ (l : List ℕ). page_line [] (map id_text l))
     (columns_part c.args.image.now c.args.band cols.columns.result c.band_end-stop.result cols.columns.ensures c.band_end-stop.ensures c.requires.0.starts) in
-    let called = c in
-    let s = called.args in
-    let ids = as_written first called.id_line-end.ensures in
+    let s = c.args in
+    let ids = as_written first c.id_line-end.ensures in
     lines_written s.image.now s.band s.part ids (texts_end c.loop-i.invariant (omega arith))

@@ -15,22 +15,19 @@ use Rattle.pages.proofs.lines.id_line.Goals as goal
 
 pub loop-i-init : goal.loop-i-init
 loop-i-init c =
-    let s = c in
-    let fits = line_fits id_text [] s.args.columns.now (omega arith) no_characters s.requires.0 (λ w m. (id_fits w, decimal_characters (id_of w))) in
-    cells_start id_text [] s.args.columns.now fits s.requires.1 c.put_blanks-end.ensures
+    let fits = line_fits id_text [] c.args.columns.now (omega arith) no_characters c.requires.0 (λ w m. (id_fits w, decimal_characters (id_of w))) in
+    cells_start id_text [] c.args.columns.now fits c.requires.1 c.put_blanks-end.ensures
 
 pub number_right-end-requires : goal.number_right-end-requires
 number_right-end-requires c =
-    let loop = c in
-    let w = get_or loop.args.columns.now loop.loop-i.i 0 in
+    let w = get_or c.args.columns.now c.loop-i.i 0 in
     let e = ap (λ (n : ℕ). length (decimal n)) c.id.ensures in
     (omega (arith, e, id_fits w), omega arith, cell_room c.loop-i.invariant (omega arith) (id_fits _))
 
 pub loop-i-preserved : goal.loop-i-preserved
 loop-i-preserved c =
-    let id = c in
-    cell_turn id.loop-i.invariant (omega arith)
-    (as_written (ap (λ (n : ℕ). flush_right cell_width (decimal n)) id.id.ensures) c.number_right-end.ensures)
+    cell_turn c.loop-i.invariant (omega arith)
+    (as_written (ap (λ (n : ℕ). flush_right cell_width (decimal n)) c.id.ensures) c.number_right-end.ensures)
 
 pub end_line-requires : goal.end_line-requires
 end_line-requires c =
@@ -40,6 +37,5 @@ end_line-requires c =
 pub returns : goal.returns
 returns c =
     let w = c.loop-i.invariant in
-    let first = c in
-    let columns = first.args.columns.now in
-    line_written id_text [] columns first.put_blanks-end.ensures (cells_end w (omega arith) c.end_line.ensures)
+    let columns = c.args.columns.now in
+    line_written id_text [] columns c.put_blanks-end.ensures (cells_end w (omega arith) c.end_line.ensures)

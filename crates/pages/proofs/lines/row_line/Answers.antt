@@ -8,16 +8,14 @@ use Rattle.pages.proofs.lines.row_line.Goals as goal
 
 pub number_right-end-requires : goal.number_right-end-requires
 number_right-end-requires c =
-    let s = c in
-    (position_fits s.args.position s.requires.0, omega arith, omega arith)
+    (position_fits c.args.position c.requires.0, omega arith, omega arith)
 
 pub loop-i-init : goal.loop-i-init
 loop-i-init c =
-    let s = c in
-    let position = s.args.position in
-    let fits = line_fits cell_text (decimal position) s.args.cells.now (position_fits position s.requires.0) (decimal_characters position) s.requires.1
+    let position = c.args.position in
+    let fits = line_fits cell_text (decimal position) c.args.cells.now (position_fits position c.requires.0) (decimal_characters position) c.requires.1
     (λ w m. (cell_fits w, cell_characters w)) in
-    cells_start cell_text (decimal position) s.args.cells.now fits s.requires.2 c.number_right-end.ensures
+    cells_start cell_text (decimal position) c.args.cells.now fits c.requires.2 c.number_right-end.ensures
 
 pub cell_right-end-requires : goal.cell_right-end-requires
 cell_right-end-requires c = cell_room c.loop-i.invariant (omega arith) (cell_fits _)
@@ -33,6 +31,5 @@ end_line-requires c =
 pub returns : goal.returns
 returns c =
     let w = c.loop-i.invariant in
-    let first = c in
-    let s = first.args in
-    line_written cell_text (decimal s.position) s.cells.now first.number_right-end.ensures (cells_end w (omega arith) c.end_line.ensures)
+    let s = c.args in
+    line_written cell_text (decimal s.position) s.cells.now c.number_right-end.ensures (cells_end w (omega arith) c.end_line.ensures)

@@ -5,7 +5,6 @@ use Rattle.patterns.proofs.columns.add_row.Goals as goal
 
 pub returns : goal.returns
 returns c =
-    let s = c in
-    let a = s.args in
+    let a = c.args in
     let l = c.loop-c in
-    filled_to_end a.row.now a.j a.columns.now l.c l.columns (search rules) s.requires.1 l.invariant.1
+    filled_to_end a.row.now a.j a.columns.now l.c l.columns (search rules) c.requires.1 l.invariant.1

@@ -15,13 +15,11 @@ module _ (c : After-slice_known-in-loop-j-1) where
 pub loop-j-preserved : goal.loop-j-preserved
 loop-j-preserved c =
     let f = c.add_row in
-    let i = c in
-    let l = i.loop-j in
-    let q = i in
-    let s = q.args in
+    let l = c.loop-j in
+    let s = c.args in
     record {
       passed = omega arith;
-      here = next_at i;
+      here = next_at c;
       size = f.auto.columns ∙ l.invariant.size;
-      filled_rows = columns_more s.width s.n l.j l.at s.cells.now q.requires.1 i.loop-j-test.true l.invariant.here l.columns _ l.invariant.filled_rows f.ensures;
+      filled_rows = columns_more s.width s.n l.j l.at s.cells.now c.requires.1 c.loop-j-test.true l.invariant.here l.columns _ l.invariant.filled_rows f.ensures;
     }

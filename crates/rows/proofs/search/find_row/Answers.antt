@@ -10,35 +10,31 @@ pub loop-lo-preserved-in-Before : goal.loop-lo-preserved-in-Before
 loop-lo-preserved-in-Before c =
     let r = c.compare_with in
     let l = c.loop-lo in
-    let q = c in
-    let s = q.args in
+    let s = c.args in
     let mid = l.lo + (l.hi - l.lo) / 2 in
-    search_before (length s.row.now) s.m s.cells.now s.order.now s.row.now q.requires.0 q.requires.1
+    search_before (length s.row.now) s.m s.cells.now s.order.now s.row.now c.requires.0 c.requires.1
     l.lo l.hi mid l.invariant (omega arith) (omega arith) r.result r.ensures c.in-Before.is
 
 pub returns-in-Same : goal.returns-in-Same
 returns-in-Same c =
     let r = c.compare_with in
     let l = c.loop-lo in
-    let q = c in
-    let s = q.args in
+    let s = c.args in
     let mid = l.lo + (l.hi - l.lo) / 2 in
-    search_same (length s.row.now) s.m s.cells.now s.order.now s.row.now q.requires.0 q.requires.1
+    search_same (length s.row.now) s.m s.cells.now s.order.now s.row.now c.requires.0 c.requires.1
     l.lo l.hi mid l.invariant (omega arith) (omega arith) r.result r.ensures c.in-Same.is
 
 pub loop-lo-preserved : goal.loop-lo-preserved
 loop-lo-preserved c =
     let r = c.compare_with in
     let l = c.loop-lo in
-    let q = c in
-    let s = q.args in
+    let s = c.args in
     let mid = l.lo + (l.hi - l.lo) / 2 in
-    search_after (length s.row.now) s.m s.cells.now s.order.now s.row.now q.requires.0 q.requires.1
+    search_after (length s.row.now) s.m s.cells.now s.order.now s.row.now c.requires.0 c.requires.1
     l.lo l.hi mid l.invariant (omega arith) (omega arith) r.result r.ensures c.in-After.is
 
 pub returns : goal.returns
 returns c =
     let l = c.loop-lo in
-    let q = c in
-    let s = q.args in
-    search_over (length s.row.now) s.m s.cells.now s.order.now s.row.now q.requires.0 q.requires.1 l.lo l.hi l.invariant (search rules)
+    let s = c.args in
+    search_over (length s.row.now) s.m s.cells.now s.order.now s.row.now c.requires.0 c.requires.1 l.lo l.hi l.invariant (search rules)

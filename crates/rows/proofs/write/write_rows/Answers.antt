@@ -7,13 +7,10 @@ use Rattle.rows.proofs.write.write_rows.Goals as goal
 
 pub loop-k-preserved : goal.loop-k-preserved
 loop-k-preserved c =
-    let k = c in
-    let w = k in
-    let l = w.loop-k in
-    let q = w in
-    let s = q.args in (
+    let l = c.loop-k in
+    let s = c.args in (
       search rules,
       omega (arith, add-mul l.k 1 s.width, one-mul s.width),
-      rows_turn s.dst.now s.cells.now s.order.now s.at s.width s.m q.requires.1 (search rules) (search rules)
-          l.k w.wide.result l.to l.dst _ (search rules) w.wide.ensures l.invariant.1 l.invariant.2 k.write_words.ensures,
+      rows_turn s.dst.now s.cells.now s.order.now s.at s.width s.m c.requires.1 (search rules) (search rules)
+          l.k c.wide.result l.to l.dst _ (search rules) c.wide.ensures l.invariant.1 l.invariant.2 c.write_words.ensures,
     )

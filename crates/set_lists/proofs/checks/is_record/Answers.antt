@@ -14,17 +14,15 @@ returns-then-not-is_row_word c =
 
 pub returns-then-not-has_mark : goal.returns-then-not-has_mark
 returns-then-not-has_mark c =
-    let r = c in
-    let s = r.args in
+    let s = c.args in
     some_fails mark_words s.rows s.set.now (take mark_words s.set.now) refl (omega arith)
-    r.is_row_word.result r.is_row_word.ensures (c.if-not-is_row_word.false)
+    c.is_row_word.result c.is_row_word.ensures (c.if-not-is_row_word.false)
     c.has_mark.result c.has_mark.ensures (c.if-not-has_mark.true)
 
 pub returns : goal.returns
 returns c =
-    let r = c in
-    let s = r.args in
+    let s = c.args in
     c.marks_fit.ensures
     ∙ marks_tell mark_words s.rows s.set.now (take mark_words s.set.now) refl (omega arith)
-    r.is_row_word.result r.is_row_word.ensures (c.if-not-is_row_word.false)
+    c.is_row_word.result c.is_row_word.ensures (c.if-not-is_row_word.false)
     c.has_mark.result c.has_mark.ensures (c.if-not-has_mark.false)

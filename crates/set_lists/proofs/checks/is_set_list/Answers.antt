@@ -41,9 +41,8 @@ returns-then-sets-gt-MAX_SETS c =
 
 pub returns : goal.returns
 returns c =
-    let t = c in
-    let rows = t.args.rows in
-    let list = t.args.list.now in
+    let rows = c.args.rows in
+    let list = c.args.list.now in
     let sets : c.rows-sets.result ≡ set_count list = c.rows-sets.ensures in
     bool_eq (eqb (length list) (1 + 4 * c.rows-sets.result)) (is_set_list mark_words rows list)
     (λ e. (well_formed_is mark_words rows list).1 (record {

@@ -9,20 +9,15 @@ use Rattle.set_lists.proofs.members.write_entry.Goals as goal
 
 pub write_members-end-requires : goal.write_members-end-requires
 write_members-end-requires c =
-    let s = c in
-    let set = s.args.set.now in
-    let wide : mark_words ≤ length set = omega (arith, s.requires.set_len) in record { marks_len_bound = omega (arith, length-take-le mark_words set wide); fits = members_fit mark_words set s.args.out.now _ wide c.count_members.ensures s.requires.fits }
+    let set = c.args.set.now in
+    let wide : mark_words ≤ length set = omega (arith, c.requires.set_len) in record { marks_len_bound = omega (arith, length-take-le mark_words set wide); fits = members_fit mark_words set c.args.out.now _ wide c.count_members.ensures c.requires.fits }
 
 pub bounds-out-end : goal.bounds-out-end
 bounds-out-end c =
-    let counted = c in
-    let s = counted in
-    row_room mark_words s.args.set.now s.args.out.now _ (omega (arith, s.requires.set_len)) counted.count_members.ensures s.requires.fits
+    row_room mark_words c.args.set.now c.args.out.now _ (omega (arith, c.requires.set_len)) c.count_members.ensures c.requires.fits
     c.write_members-end.ensures
 
 pub returns : goal.returns
 returns c =
-    let counted = c in
-    let s = counted in
-    entry_written mark_words s.args.set.now s.args.out.now _ (omega (arith, s.requires.set_len)) counted.count_members.ensures s.requires.fits
+    entry_written mark_words c.args.set.now c.args.out.now _ (omega (arith, c.requires.set_len)) c.count_members.ensures c.requires.fits
     c.write_members-end.ensures c.low_bits.ensures

@@ -6,28 +6,22 @@ use Rattle.set_lists.proofs.order.compare_marks.Goals as goal
 
 pub returns-then-x-y : goal.returns-then-x-y
 returns-then-x-y c =
-    let y = c in
-    let x = y in
-    let l = x.loop-i in
-    let s = x in
+    let l = c.loop-i in
     c.compare.ensures
-    ∙ differ s.args.a.now s.args.b.now s.requires l.i (l.invariant.1 s.requires) (omega arith)
-    x.low_bits-x.result y.low_bits-y.result x.low_bits-x.ensures y.low_bits-y.ensures c.if-x-y.true
+    ∙ differ c.args.a.now c.args.b.now c.requires l.i (l.invariant.1 c.requires) (omega arith)
+    c.low_bits-x.result c.low_bits-y.result c.low_bits-x.ensures c.low_bits-y.ensures c.if-x-y.true
 
 pub loop-i-preserved : goal.loop-i-preserved
 loop-i-preserved c =
-    let y = c in
-    let x = y in
-    let l = x.loop-i in
-    let s = x.args in (
+    let l = c.loop-i in
+    let s = c.args in (
       omega arith,
       λ size.
           equal_turn s.a.now s.b.now size l.i (l.invariant.1 size) (omega arith)
-          x.low_bits-x.result y.low_bits-y.result x.low_bits-x.ensures y.low_bits-y.ensures c.if-x-y.false,
+          c.low_bits-x.result c.low_bits-y.result c.low_bits-x.ensures c.low_bits-y.ensures c.if-x-y.false,
     )
 
 pub returns : goal.returns
 returns c =
     let l = c.loop-i in
-    let s = c in
-    equal_end s.args.a.now s.args.b.now s.requires l.i (l.invariant.1 s.requires) (omega arith)
+    equal_end c.args.a.now c.args.b.now c.requires l.i (l.invariant.1 c.requires) (omega arith)

@@ -35,16 +35,12 @@ pub all_records-requires : goal.all_records-requires
 all_records-requires c =
     let listed : is_set_list mark_words c.args.rows c.args.list.now ≡ true = sym c.is_set_list.ensures ∙ c.if-not-is_set_list.false in
     let well_formed : WellFormed mark_words c.args.rows c.args.list.now = (well_formed_is mark_words c.args.rows c.args.list.now).0 listed in
-    let r = c in
-    let i = r in
-    records_within i.args.rows i.args.list.now r.rows-sets.result r.rows-sets.ensures well_formed
+    records_within c.args.rows c.args.list.now c.rows-sets.result c.rows-sets.ensures well_formed
 
 pub returns-then-not-all_records : goal.returns-then-not-all_records
 returns-then-not-all_records c =
     let listed : is_set_list mark_words c.args.rows c.args.list.now ≡ true = sym c.is_set_list.ensures ∙ c.if-not-is_set_list.false in
-    let r = c in
-    let i = r in
-    fails_13 i.args.rows i.args.list.now r.rows-sets.result r.rows-sets.ensures listed
+    fails_13 c.args.rows c.args.list.now c.rows-sets.result c.rows-sets.ensures listed
     c.all_records.result c.all_records.ensures (c.if-not-all_records.true)
 
 pub slice_bounds-in_order-count : goal.slice_bounds-in_order-count
@@ -63,26 +59,18 @@ pub in_order-requires : goal.in_order-requires
 in_order-requires c =
     let listed : is_set_list mark_words c.args.rows c.args.list.now ≡ true = sym c.is_set_list.ensures ∙ c.if-not-is_set_list.false in
     let well_formed : WellFormed mark_words c.args.rows c.args.list.now = (well_formed_is mark_words c.args.rows c.args.list.now).0 listed in
-    let r = c in
-    let i = r in
-    records_within i.args.rows i.args.list.now r.rows-sets.result r.rows-sets.ensures well_formed
+    records_within c.args.rows c.args.list.now c.rows-sets.result c.rows-sets.ensures well_formed
 
 pub returns-then-not-in_order : goal.returns-then-not-in_order
 returns-then-not-in_order c =
     let listed : is_set_list mark_words c.args.rows c.args.list.now ≡ true = sym c.is_set_list.ensures ∙ c.if-not-is_set_list.false in
-    let a = c in
-    let r = a in
-    let i = r in
-    fails_14 i.args.rows i.args.list.now r.rows-sets.result r.rows-sets.ensures listed
-    a.all_records.result a.all_records.ensures (c.if-not-all_records.false)
+    fails_14 c.args.rows c.args.list.now c.rows-sets.result c.rows-sets.ensures listed
+    c.all_records.result c.all_records.ensures (c.if-not-all_records.false)
     c.in_order.result c.in_order.ensures (c.if-not-in_order.true)
 
 pub returns : goal.returns
 returns c =
     let listed : is_set_list mark_words c.args.rows c.args.list.now ≡ true = sym c.is_set_list.ensures ∙ c.if-not-is_set_list.false in
-    let a = c in
-    let r = a in
-    let i = r in
-    passes i.args.rows i.args.list.now r.rows-sets.result r.rows-sets.ensures listed
-    a.all_records.result a.all_records.ensures (c.if-not-all_records.false)
+    passes c.args.rows c.args.list.now c.rows-sets.result c.rows-sets.ensures listed
+    c.all_records.result c.all_records.ensures (c.if-not-all_records.false)
     c.in_order.result c.in_order.ensures (c.if-not-in_order.false)

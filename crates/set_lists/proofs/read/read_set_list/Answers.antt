@@ -27,21 +27,16 @@ slice_bounds-count_words-start c =
 
 pub count_words-count-requires : goal.count_words-count-requires
 count_words-count-requires c =
-    let accepted : WellFormed mark_words c.args.rows c.args.list.now = well_formed c.args.rows c.args.list.now c.args.words.now c.check_list-number.result c.check_list-number.ensures c.if-number-ne0.false in
-    let r = c in
-    let i = r in (
-      omega (arith, r.rows-sets.ensures, accepted.few_sets),
-      records_within i.args.rows i.args.list.now r.rows-sets.result r.rows-sets.ensures accepted,
+    let accepted : WellFormed mark_words c.args.rows c.args.list.now = well_formed c.args.rows c.args.list.now c.args.words.now c.check_list-number.result c.check_list-number.ensures c.if-number-ne0.false in (
+      omega (arith, c.rows-sets.ensures, accepted.few_sets),
+      records_within c.args.rows c.args.list.now c.rows-sets.result c.rows-sets.ensures accepted,
     )
 
 pub returns-then-words-count : goal.returns-then-words-count
 returns-then-words-count c =
-    let w = c in
-    let r = w in
-    let i = r in
-    let s = i.args in
-    short_buffer s.rows s.list.now s.words.now i.check_list-number.result i.check_list-number.ensures i.if-number-ne0.false
-    r.rows-sets.result r.rows-sets.ensures w.count_words-count.result w.count_words-count.ensures (omega arith)
+    let s = c.args in
+    short_buffer s.rows s.list.now s.words.now c.check_list-number.result c.check_list-number.ensures c.if-number-ne0.false
+    c.rows-sets.result c.rows-sets.ensures c.count_words-count.result c.count_words-count.ensures (omega arith)
 
 pub slice_bounds-write_entries-count : goal.slice_bounds-write_entries-count
 slice_bounds-write_entries-count c =
@@ -56,20 +51,14 @@ slice_bounds-write_entries-start c =
 pub write_entries-end-requires : goal.write_entries-end-requires
 write_entries-end-requires c =
     let accepted : WellFormed mark_words c.args.rows c.args.list.now = well_formed c.args.rows c.args.list.now c.args.words.now c.check_list-number.result c.check_list-number.ensures c.if-number-ne0.false in
-    let w = c in
-    let r = w in
-    let i = r in
-    let s = i.args in record {
-      set_width_in_bounds = records_within s.rows s.list.now r.rows-sets.result r.rows-sets.ensures accepted;
-      fits = words_fit s.rows s.list.now s.words.now i.check_list-number.result i.check_list-number.ensures i.if-number-ne0.false
-          r.rows-sets.result r.rows-sets.ensures w.count_words-count.result w.count_words-count.ensures (omega arith);
+    let s = c.args in record {
+      set_width_in_bounds = records_within s.rows s.list.now c.rows-sets.result c.rows-sets.ensures accepted;
+      fits = words_fit s.rows s.list.now s.words.now c.check_list-number.result c.check_list-number.ensures c.if-number-ne0.false
+          c.rows-sets.result c.rows-sets.ensures c.count_words-count.result c.count_words-count.ensures (omega arith);
     }
 
 pub returns : goal.returns
 returns c =
-    let w = c in
-    let r = w in
-    let i = r in
-    let s = i.args in
-    done_reading s.rows s.list.now s.words.now i.check_list-number.result i.check_list-number.ensures i.if-number-ne0.false
-    r.rows-sets.result r.rows-sets.ensures _ _ c.write_entries-end.ensures
+    let s = c.args in
+    done_reading s.rows s.list.now s.words.now c.check_list-number.result c.check_list-number.ensures c.if-number-ne0.false
+    c.rows-sets.result c.rows-sets.ensures _ _ c.write_entries-end.ensures

@@ -18,23 +18,18 @@ module _ (c : After-slice_known-in-loop-k-1) where
 
 pub loop-k-preserved : goal.loop-k-preserved
 loop-k-preserved c =
-    let r = c in
-    let i = r in
-    let l = i.loop-k in
-    let q = i in
-    let s = q.args in
-    let headed_buffer = set s.buffer.now 0 i.header_word.result in (
+    let l = c.loop-k in
+    let s = c.args in
+    let headed_buffer = set s.buffer.now 0 c.header_word.result in (
       search rules,
       omega (arith, l.invariant.1),
-      records_turn s.count s.sets.now s.positions.now s.buffer.now q.requires.0.enough_sets q.requires.0.enough_positions q.requires.1 headed_buffer
-          l.buffer r.write_record.new.buffer l.k l.at (headed_size i) (more i) l.invariant.1 l.invariant.2 r.write_record.ensures,
+      records_turn s.count s.sets.now s.positions.now s.buffer.now c.requires.0.enough_sets c.requires.0.enough_positions c.requires.1 headed_buffer
+          l.buffer c.write_record.new.buffer l.k l.at (headed_size c) (more c) l.invariant.1 l.invariant.2 c.write_record.ensures,
     )
 
 pub returns : goal.returns
 returns c =
     let l = c.loop-k in
-    let h = c in
-    let q = h in
-    let s = q.args in
-    records_end s.count s.sets.now s.positions.now s.buffer.now q.requires.0.enough_sets q.requires.0.enough_positions q.requires.1
-    l.buffer h.header_word.result l.k (omega arith) h.header_word.ensures l.invariant.2
+    let s = c.args in
+    records_end s.count s.sets.now s.positions.now s.buffer.now c.requires.0.enough_sets c.requires.0.enough_positions c.requires.1
+    l.buffer c.header_word.result l.k (omega arith) c.header_word.ensures l.invariant.2

@@ -14,13 +14,11 @@ use Rattle.tables.proofs.union.widen_both.Goals as goal
 
 pub bounds-a-0 : goal.bounds-a-0
 bounds-a-0 c =
-    let q = c in
-    ((passed_is max_rows q.args.a.now).0 q.requires.0.first).first_word
+    ((passed_is max_rows c.args.a.now).0 c.requires.0.first).first_word
 
 pub bounds-b-0 : goal.bounds-b-0
 bounds-b-0 c =
-    let q = c in
-    ((passed_is max_rows q.args.b.now).0 q.requires.0.second).first_word
+    ((passed_is max_rows c.args.b.now).0 c.requires.0.second).first_word
 
 pub widen_table-requires : goal.widen_table-requires
 widen_table-requires c =
@@ -58,13 +56,11 @@ widen_table-requires-2 c =
       columns = size;
     } in
     let covers : Covers union c.args.a.now × Covers union c.args.b.now = union_covers c.args.a.now c.args.b.now union c.requires.0.ids.union in
-    let x = c in
-    let k = x in
-    let f = k.requires.0 in
-    let first = x.widen_table.ensures in (
+    let f = c.requires.0 in
+    let first = c.widen_table.ensures in (
       record { accepted = f.second; differ = f.ids.differ; covers = covers.1 },
       f.few,
-      record { room = second_fits counted first; empty = second_empty counted first k.requires.1 },
+      record { room = second_fits counted first; empty = second_empty counted first c.requires.1 },
     )
 
 pub returns : goal.returns
@@ -81,12 +77,10 @@ returns c =
       second_rows = c.rows-second.ensures;
       columns = size;
     } in
-    let x = c in
-    let k = x in
-    let s = k.args in
+    let s = c.args in
     record {
-      rows_are = both-widened counted x.widen_table.ensures c.widen_table-2.ensures
-          ∙ ap (λ (u : List ℕ). widened_rows u s.a.now ++ widened_rows u s.b.now) k.requires.0.ids.union;
+      rows_are = both-widened counted c.widen_table.ensures c.widen_table-2.ensures
+          ∙ ap (λ (u : List ℕ). widened_rows u s.a.now ++ widened_rows u s.b.now) c.requires.0.ids.union;
       few_rows = rows_few counted;
       all_cell_words = search rules;
     }

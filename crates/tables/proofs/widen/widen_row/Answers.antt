@@ -9,25 +9,22 @@ use Rattle.tables.proofs.widen.widen_row.Goals as goal
 
 pub overflow_add-cells : goal.overflow_add-cells
 overflow_add-cells c =
-    let s = c in
     let l = c.loop-j in
-    let w = s.requires.1 (get_or s.args.indices.now l.j 0) (member-get 0 s.args.indices.now l.j (omega arith)) in
+    let w = c.requires.1 (get_or c.args.indices.now l.j 0) (member-get 0 c.args.indices.now l.j (omega arith)) in
     let z = l.invariant.1.size in
     search rules
 
 pub offset_bounds-cells-at : goal.offset_bounds-cells-at
 offset_bounds-cells-at c =
-    let s = c in
     let l = c.loop-j in
-    let w = s.requires.1 (get_or s.args.indices.now l.j 0) (member-get 0 s.args.indices.now l.j (omega arith)) in
+    let w = c.requires.1 (get_or c.args.indices.now l.j 0) (member-get 0 c.args.indices.now l.j (omega arith)) in
     let z = l.invariant.1.size in
     search rules
 
 pub bounds-cells-at : goal.bounds-cells-at
 bounds-cells-at c =
-    let s = c in
     let l = c.loop-j in
-    let w = s.requires.1 (get_or s.args.indices.now l.j 0) (member-get 0 s.args.indices.now l.j (omega arith)) in
+    let w = c.requires.1 (get_or c.args.indices.now l.j 0) (member-get 0 c.args.indices.now l.j (omega arith)) in
     let z = l.invariant.1.size in
     search rules
 

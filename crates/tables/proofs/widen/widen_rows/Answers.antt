@@ -20,8 +20,7 @@ module _ (c : After-slice_known-in-loop-i-1) where
 
 pub bounds-image-0 : goal.bounds-image-0
 bounds-image-0 c =
-    let q = c in
-    ((passed_is max_rows q.args.image.now).0 q.requires.0.accepted).first_word
+    ((passed_is max_rows c.args.image.now).0 c.requires.0.accepted).first_word
 
 pub slice_bounds-widen_row-end : goal.slice_bounds-widen_row-end
 slice_bounds-widen_row-end c =
@@ -32,15 +31,10 @@ slice_bounds-widen_row-end c =
 pub widen_row-requires : goal.widen_row-requires
 widen_row-requires c =
     let more : c.loop-i.i < row_count c.args.image.now = omega (arith, c.rows-rows.ensures) in
-    let l = c in
-    let q = l in
-    cells_within l.loop-i.invariant more q.args.indices.now q.requires.0.covers q.requires.1
+    cells_within c.loop-i.invariant more c.args.indices.now c.requires.0.covers c.requires.1
 
 pub loop-i-preserved : goal.loop-i-preserved
 loop-i-preserved c =
     let more : c.loop-i.i < row_count c.args.image.now = omega (arith, c.rows-rows.ensures) in
-    let k = c in
-    let l = k in
-    let q = l in
-    let next = widen_turn l.loop-i.invariant more q.args.indices.now q.requires.0.covers q.requires.1 q.requires.2.empty _ k.widen_row.ensures in
-    rw (even l) at next
+    let next = widen_turn c.loop-i.invariant more c.args.indices.now c.requires.0.covers c.requires.1 c.requires.2.empty _ c.widen_row.ensures in
+    rw (even c) at next

@@ -17,25 +17,22 @@ bounds-image-0 c =
 
 pub slice_bounds-column_indices-end : goal.slice_bounds-column_indices-end
 slice_bounds-column_indices-end c =
-    let s = c in
-    let a = (passed_is max_rows s.args.image.now).0 s.requires.0.accepted in
+    let a = (passed_is max_rows c.args.image.now).0 c.requires.0.accepted in
     let z = a.all_words in
     let e = c.columns-columns.ensures in
     search rules
 
 pub column_indices-requires : goal.column_indices-requires
 column_indices-requires c =
-    let s = c in
-    let u = columns_of s.args.image.now _ s.requires.0.accepted c.columns-columns.ensures in
+    let u = columns_of c.args.image.now _ c.requires.0.accepted c.columns-columns.ensures in
     let z = u.size in
     let f = u.few in
-    (omega arith, omega (arith, s.requires.1))
+    (omega arith, omega (arith, c.requires.1))
 
 pub widen_rows-requires : goal.widen_rows-requires
 widen_rows-requires c =
-    let s = c in
-    let u = columns_of s.args.image.now _ s.requires.0.accepted c.columns-columns.ensures in
-    let all = s.args.all.now in
-    let image = s.args.image.now in
+    let u = columns_of c.args.image.now _ c.requires.0.accepted c.columns-columns.ensures in
+    let all = c.args.all.now in
+    let image = c.args.image.now in
     let indices = indices_written all image _ (replicate max_columns 0) _ _ u c.column_indices.ensures in
-    (s.requires.0, indices ∙ indices_ordered all (image_ids image) s.requires.0.differ, s.requires.2)
+    (c.requires.0, indices ∙ indices_ordered all (image_ids image) c.requires.0.differ, c.requires.2)

@@ -5,23 +5,17 @@ use Rattle.unions.proofs.fused.write_fused.Goals as goal
 
 pub returns-then-number-ne0 : goal.returns-then-number-ne0
 returns-then-number-ne0 c =
-    let k = c in
-    let s = k.args in
-    fused_refused k.requires.listed_table k.fuse_rows-rows.ensures s.table.now s.sets.now _ c.check_room-number.ensures c.if-number-ne0.true
+    let s = c.args in
+    fused_refused c.requires.listed_table c.fuse_rows-rows.ensures s.table.now s.sets.now _ c.check_room-number.ensures c.if-number-ne0.true
 
 pub write_list-requires : goal.write_list-requires
-write_list-requires c =
-    let q = c in
-    let k = q in (
-      fused_listable k.requires.listed_table k.fuse_rows-rows.ensures (omega (arith, k.requires.room_for.positions_too, c.fuse_rows-rows.auto.positions)),
-      (q.check_room-number.ensures.fits q.if-number-ne0.false).1,
-    )
+write_list-requires c = (
+  fused_listable c.requires.listed_table c.fuse_rows-rows.ensures (omega (arith, c.requires.room_for.positions_too, c.fuse_rows-rows.auto.positions)),
+  (c.check_room-number.ensures.fits c.if-number-ne0.false).1,
+)
 
 pub returns : goal.returns
 returns c =
-    let q = c in
-    let k = q in
-    let s = k.args in
-    let w = c in
-    fused_done k.requires.listed_table k.fuse_rows-rows.ensures s.table.now s.sets.now _ q.check_room-number.ensures q.if-number-ne0.false _ _ _ w.write_image-filled.ensures
+    let s = c.args in
+    fused_done c.requires.listed_table c.fuse_rows-rows.ensures s.table.now s.sets.now _ c.check_room-number.ensures c.if-number-ne0.false _ _ _ c.write_image-filled.ensures
     c.write_list.ensures

@@ -20,8 +20,7 @@ returns-then-columns-gt-MAX_COLUMNS c =
     let first : image_number max_rows c.args.a.now ≡ 0 = sym c.check_image-first.ensures ∙ c.if-first-ne0.false in
     let second : image_number max_rows c.args.b.now ≡ 0 = sym c.check_image-second.ensures ∙ c.if-second-ne0.false in
     let d = c.both_ids-columns in
-    let q = c in
-    let s = q.args in
+    let s = c.args in
     no_columns s.a.now s.b.now _ _ (search rules) first second d.ensures.0 refl refl c.if-columns-gt-MAX_COLUMNS.true
 
 pub returns : goal.returns
@@ -29,6 +28,5 @@ returns c =
     let first : image_number max_rows c.args.a.now ≡ 0 = sym c.check_image-first.ensures ∙ c.if-first-ne0.false in
     let second : image_number max_rows c.args.b.now ≡ 0 = sym c.check_image-second.ensures ∙ c.if-second-ne0.false in
     let d = c.both_ids-columns in
-    let q = c in
-    let s = q.args in
+    let s = c.args in
     yes s.a.now s.b.now _ _ (search rules) first second d.ensures.0 refl (search rules)
