@@ -32,47 +32,57 @@ fn show(rt: &impl Print, title: &[u8], shape: Shape, n: usize) -> io::Result<()>
     }
 }
 
-fn main(rt: HostRuntime) -> io::Result<()> {
-    show(&rt, b"no row: ", Shape::Apart, 0)?;
-    show(&rt, b"one row: ", Shape::Apart, 1)?;
-    show(&rt, b"4 rows in a path: ", Shape::Path, 4)?;
-    show(&rt, b"64 rows apart: ", Shape::Apart, MAX_UNION_ROWS)?;
-    show(&rt, b"64 rows together: ", Shape::Together, MAX_UNION_ROWS)?;
-    show(&rt, b"18 rows in triples: ", Shape::Triples, 18)?;
-    show(&rt, b"63 rows in triples: ", Shape::Triples, 63)?;
-    show(&rt, b"20 rows in pairs: ", Shape::Pairs, 20)?;
-    show(&rt, b"20 rows in pairs, and one: ", Shape::PairsAndOne, 21)?;
+// Graphs of rows apart, together, in a path, in triples and in pairs.
+fn plain(rt: &impl Print) -> io::Result<()> {
+    show(rt, b"no row: ", Shape::Apart, 0)?;
+    show(rt, b"one row: ", Shape::Apart, 1)?;
+    show(rt, b"4 rows in a path: ", Shape::Path, 4)?;
+    show(rt, b"64 rows apart: ", Shape::Apart, MAX_UNION_ROWS)?;
+    show(rt, b"64 rows together: ", Shape::Together, MAX_UNION_ROWS)?;
+    show(rt, b"18 rows in triples: ", Shape::Triples, 18)?;
+    show(rt, b"63 rows in triples: ", Shape::Triples, 63)?;
+    show(rt, b"20 rows in pairs: ", Shape::Pairs, 20)?;
+    show(rt, b"20 rows in pairs, and one: ", Shape::PairsAndOne, 21)
+}
+
+// Graphs in which the rows have more in common.
+fn tangled(rt: &impl Print) -> io::Result<()> {
     show(
-        &rt,
+        rt,
         b"64 rows of 32 devices: ",
         Shape::Devices,
         MAX_UNION_ROWS,
     )?;
-    show(&rt, b"64 rows, rest 1: ", Shape::RestOne, MAX_UNION_ROWS)?;
-    show(&rt, b"64 rows, rest 5: ", Shape::RestFive, MAX_UNION_ROWS)?;
+    show(rt, b"64 rows, rest 1: ", Shape::RestOne, MAX_UNION_ROWS)?;
+    show(rt, b"64 rows, rest 5: ", Shape::RestFive, MAX_UNION_ROWS)?;
     show(
-        &rt,
+        rt,
         b"64 rows, 44 common last: ",
         Shape::CommonLast,
         MAX_UNION_ROWS,
     )?;
     show(
-        &rt,
+        rt,
         b"64 rows, 44 common first: ",
         Shape::CommonFirst,
         MAX_UNION_ROWS,
     )?;
     show(
-        &rt,
+        rt,
         b"64 rows in two groups: ",
         Shape::TwoGroups,
         MAX_UNION_ROWS,
     )?;
     show(
-        &rt,
+        rt,
         b"64 rows in parts of four: ",
         Shape::Parts,
         MAX_UNION_ROWS,
     )?;
-    show(&rt, b"5 rows in parts of four: ", Shape::Parts, 5)
+    show(rt, b"5 rows in parts of four: ", Shape::Parts, 5)
+}
+
+fn main(rt: HostRuntime) -> io::Result<()> {
+    plain(&rt)?;
+    tangled(&rt)
 }

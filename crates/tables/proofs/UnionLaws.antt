@@ -24,7 +24,8 @@ use Rattle.lists.proofs.Flat.{rows_local, rows_append, flat_rows_all, pasted_row
 use Rattle.rows.specs.Indices.{row_at, rows_at, Ordered}
 use Rattle.tables.specs.declared.Table.{Table}
 use Rattle.tables.specs.Table.{Found, NewTable, CellsOf, TableOf}
-use Rattle.tables.specs.UnionIds.{Covers}
+use Rattle.tables.specs.UnionIds.{in_order, Covers}
+use Rattle.tables.proofs.Smaller.{distinct_count}
 use Rattle.tables.proofs.IdLaws.{both_count}
 use Rattle.tables.proofs.Scatter.{paste_after}
 use Rattle.tables.proofs.WidenLaws.{widened_wide, widened_words}
@@ -55,6 +56,18 @@ pub record Counted (union a b cells : List ℕ) (n m w : ℕ) : Type 0 where
   pub first_rows : n ≡ row_count a
   pub second_rows : m ≡ row_count b
   pub columns : length union ≡ w
+
+pub counted_both : {a b all : List ℕ} {n m : ℕ} (cells : List ℕ) → Found a b all → max_union_rows * max_columns ≤ length cells
+    → n ≡ row_count a → m ≡ row_count b → Counted (in_order all) a b cells n m (length all)
+counted_both {all = all} cells f room first second = record {
+  first_accepted = f.first;
+  second_accepted = f.second;
+  few = f.few;
+  room = room;
+  first_rows = first;
+  second_rows = second;
+  columns = distinct_count all f.ids.differ;
+}
 
 module _ {union a b cells : List ℕ} {n m w : ℕ} (d : Counted union a b cells n m w) where
   pub rows_few : n + m ≤ max_union_rows

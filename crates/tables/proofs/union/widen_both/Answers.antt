@@ -1,14 +1,12 @@
 -- The widened rows of the first image stand in the cells, and those of the second after them.
-use mathlib.Core.Path.{◌≡◌, ◌∙◌, ap}
+use mathlib.Core.Path.{◌∙◌, ap}
 use mathlib.Core.List.{List, ◌++◌}
 use Prim.Native.Nat.{ℕ}
-use lib.ListN.{length}
 use Rattle.definitions.specs.Limits.{max_rows}
 use Rattle.definitions.specs.OuterUnion.{widened_rows}
 use Rattle.definitions.proofs.Questions.{passed_is}
-use Rattle.tables.specs.UnionIds.{in_order, Covers}
-use Rattle.tables.proofs.Smaller.{distinct_count}
-use Rattle.tables.proofs.UnionLaws.{Counted, rows_few, first_fits, second_fits, second_empty, both-widened, union_covers}
+use Rattle.tables.specs.UnionIds.{in_order}
+use Rattle.tables.proofs.UnionLaws.{counted_both, rows_few, first_fits, second_fits, second_empty, both-widened, union_covers}
 use borrow.Author.Rules.{rules}
 use Rattle.tables.proofs.union.widen_both.Goals as goal
 
@@ -22,19 +20,9 @@ bounds-b-0 c =
 
 pub widen_table-requires : goal.widen_table-requires
 widen_table-requires c =
-    let union : List ℕ = in_order c.args.all.now in
-    let size : length union ≡ length c.args.all.now = distinct_count c.args.all.now c.requires.0.ids.differ in
-    let counted : Counted union c.args.a.now c.args.b.now c.args.cells.now
-    c.rows-first.result c.rows-second.result (length c.args.all.now) = record {
-      first_accepted = c.requires.0.first;
-      second_accepted = c.requires.0.second;
-      few = c.requires.0.few;
-      room = search rules;
-      first_rows = c.rows-first.ensures;
-      second_rows = c.rows-second.ensures;
-      columns = size;
-    } in
-    let covers : Covers union c.args.a.now × Covers union c.args.b.now = union_covers c.args.a.now c.args.b.now union c.requires.0.ids.union in
+    let union = in_order c.args.all.now in
+    let counted = counted_both c.args.cells.now c.requires.0 (search rules) c.rows-first.ensures c.rows-second.ensures in
+    let covers = union_covers c.args.a.now c.args.b.now union c.requires.0.ids.union in
     let f = c.requires.0 in (
       record { accepted = f.first; differ = f.ids.differ; covers = covers.0 },
       f.few,
@@ -43,19 +31,9 @@ widen_table-requires c =
 
 pub widen_table-requires-2 : goal.widen_table-requires-2
 widen_table-requires-2 c =
-    let union : List ℕ = in_order c.args.all.now in
-    let size : length union ≡ length c.args.all.now = distinct_count c.args.all.now c.requires.0.ids.differ in
-    let counted : Counted union c.args.a.now c.args.b.now c.args.cells.now
-    c.rows-first.result c.rows-second.result (length c.args.all.now) = record {
-      first_accepted = c.requires.0.first;
-      second_accepted = c.requires.0.second;
-      few = c.requires.0.few;
-      room = search rules;
-      first_rows = c.rows-first.ensures;
-      second_rows = c.rows-second.ensures;
-      columns = size;
-    } in
-    let covers : Covers union c.args.a.now × Covers union c.args.b.now = union_covers c.args.a.now c.args.b.now union c.requires.0.ids.union in
+    let union = in_order c.args.all.now in
+    let counted = counted_both c.args.cells.now c.requires.0 (search rules) c.rows-first.ensures c.rows-second.ensures in
+    let covers = union_covers c.args.a.now c.args.b.now union c.requires.0.ids.union in
     let f = c.requires.0 in
     let first = c.widen_table.ensures in (
       record { accepted = f.second; differ = f.ids.differ; covers = covers.1 },
@@ -65,18 +43,8 @@ widen_table-requires-2 c =
 
 pub returns : goal.returns
 returns c =
-    let union : List ℕ = in_order c.args.all.now in
-    let size : length union ≡ length c.args.all.now = distinct_count c.args.all.now c.requires.0.ids.differ in
-    let counted : Counted union c.args.a.now c.args.b.now c.args.cells.now
-    c.rows-first.result c.rows-second.result (length c.args.all.now) = record {
-      first_accepted = c.requires.0.first;
-      second_accepted = c.requires.0.second;
-      few = c.requires.0.few;
-      room = search rules;
-      first_rows = c.rows-first.ensures;
-      second_rows = c.rows-second.ensures;
-      columns = size;
-    } in
+    let union = in_order c.args.all.now in
+    let counted = counted_both c.args.cells.now c.requires.0 (search rules) c.rows-first.ensures c.rows-second.ensures in
     let s = c.args in
     record {
       rows_are = both-widened counted c.widen_table.ensures c.widen_table-2.ensures
