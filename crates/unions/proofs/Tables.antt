@@ -35,10 +35,10 @@ module _ {u : List ℕ} {rows : List (List ℕ)} {t : Table} (h : TableOf t u ro
   }
 
 -- a new table whose cells and count of rows a call has told
-pub filled : {a b all : List ℕ} {rs : List (List ℕ)} {rows : ℕ} {cells : List ℕ} → Found a b all → (new : Table) → NewTable a b (length all) new
+pub filled_new : {a b all : List ℕ} {rs : List (List ℕ)} {rows : ℕ} {cells : List ℕ} → Found a b all → (new : Table) → NewTable a b (length all) new
     → CellsOf rs (length all) rows cells
     → TableOf (record { cells = cells; ids = new.ids; rows = rows; columns = new.columns }) (union_columns a b) rs
-filled f new made cells = filled_table f new made refl refl cells
+filled_new f new made cells = filled_table f new made refl refl cells
 
 -- the rows at m indices, and that they can be written
 pub record Result (u : List ℕ) (rows : List (List ℕ)) (t : Table) (order : List ℕ) (m : ℕ) : Type 0 where

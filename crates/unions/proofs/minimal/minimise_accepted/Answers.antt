@@ -6,13 +6,13 @@ use native.Mathlib.Omega.{arith}
 use lib.ListN.{length}
 use Rattle.definitions.specs.MinimumUnion.{pairs_tried}
 use Rattle.definitions.specs.Calls.{minimum_image, minimum_outcome}
-use Rattle.unions.proofs.Tables.{filled, minimum_result}
+use Rattle.unions.proofs.Tables.{filled_new, minimum_result}
 use Rattle.unions.proofs.Ends.{refused_room, done_room}
 use Rattle.unions.proofs.minimal.minimise_accepted.Goals as goal
 
 pub put_image-put-requires : goal.put_image-put-requires
 put_image-put-requires c =
-    let held = filled c.requires c.new-t.result c.new-t.ensures c.union_rows.ensures in
+    let held = filled_new c.requires c.new-t.result c.new-t.ensures c.union_rows.ensures in
     let within : c.minimum_rows-left.result.rows ≤ length c.minimum_rows-left.new.kept = omega (arith, c.minimum_rows-left.ensures.count, held.few_rows, c.minimum_rows-left.auto.kept) in
     let result = minimum_result c.args.a.now c.args.b.now within held c.minimum_rows-left.ensures in
     result.can
@@ -20,7 +20,7 @@ put_image-put-requires c =
 pub returns-then-number-ne0 : goal.returns-then-number-ne0
 unfolding minimum_outcome minimum_image
 returns-then-number-ne0 c =
-    let held = filled c.requires c.new-t.result c.new-t.ensures c.union_rows.ensures in
+    let held = filled_new c.requires c.new-t.result c.new-t.ensures c.union_rows.ensures in
     let within : c.minimum_rows-left.result.rows ≤ length c.minimum_rows-left.new.kept = omega (arith, c.minimum_rows-left.ensures.count, held.few_rows, c.minimum_rows-left.auto.kept) in
     let result = minimum_result c.args.a.now c.args.b.now within held c.minimum_rows-left.ensures in
     refused_room c.requires result c.put_image-put.ensures _ c.if-number-ne0.true
@@ -28,7 +28,7 @@ returns-then-number-ne0 c =
 pub returns : goal.returns
 unfolding minimum_outcome minimum_image
 returns c =
-    let held = filled c.requires c.new-t.result c.new-t.ensures c.union_rows.ensures in
+    let held = filled_new c.requires c.new-t.result c.new-t.ensures c.union_rows.ensures in
     let within : c.minimum_rows-left.result.rows ≤ length c.minimum_rows-left.new.kept = omega (arith, c.minimum_rows-left.ensures.count, held.few_rows, c.minimum_rows-left.auto.kept) in
     let result = minimum_result c.args.a.now c.args.b.now within held c.minimum_rows-left.ensures in
     let p = c.minimum_rows-left.ensures.tried ∙ ap pairs_tried held.rows_are in
