@@ -2,8 +2,8 @@
 use Rattle.std.specs.Prelude.{◌≡◌, Bool, true, cond, ℕ, zero, suc, ◌+◌, ◌-◌, ◌/◌, ◌%◌, ◌^◌, ◌<◌, eqb}
 use Rattle.std.specs.Int.Bits.{bit_and, bit_or, bit_xor}
 use Rattle.std.specs.Int.Count.{count_trailing_zeros}
-use Rattle.definitions.specs.declared.Order.{Order}
-use Rattle.definitions.specs.declared.Order.TheVariants.{Before, Same, After}
+use Rattle.std.specs.declared.cmp.Ordering.{Ordering}
+use Rattle.std.specs.declared.cmp.Ordering.TheVariants.{Less, Equal, Greater}
 
 -- the positions that a machine word holds: the operations of this crate are on one word
 abbrev pub word_bits : ℕ
@@ -50,8 +50,8 @@ unfoldable pub without_lowest : ℕ → ℕ
 without_lowest set = bit_and set (set - 1)
 
 -- set order: "look at the smallest position that only one of them holds: the set with it comes first"
-unfoldable pub compare_bits : ℕ → ℕ → Order
-compare_bits a b = cond (eqb a b) Same (cond (has a (lowest (only_one a b))) Before After)
+unfoldable pub compare_bits : ℕ → ℕ → Ordering
+compare_bits a b = cond (eqb a b) Equal (cond (has a (lowest (only_one a b))) Less Greater)
 
 -- all of a is in b, as a statement
 abbrev pub Sub : ℕ → ℕ → Type 0

@@ -4,7 +4,7 @@
 ghost use Rattle.std.specs.Prelude.{◌≡◌, ℕ, ◌<◌};
 ghost use Rattle.bitsets.specs.Bits.{has, both, either, is_sub, but_not, with_row, rows_below, Inside, lowest, without_lowest, size_below, compare_bits, word_bits};
 
-use definitions::Order;
+use std::cmp::Ordering;
 
 // The positions that a word holds.
 pub const WORD_BITS: usize = 64;
@@ -94,16 +94,16 @@ pub fn size(set: u64) -> usize
 }
 
 // Set order, by the smallest row that only one of them holds.
-pub fn compare(a: u64, b: u64) -> Order
+pub fn compare(a: u64, b: u64) -> Ordering
     ensures { result ≡ compare_bits a b }
 {
     if a == b {
-        return Order::Same;
+        return Ordering::Equal;
     }
     let row = u64::trailing_zeros(a ^ b);
     if (a >> row) % 2 == 1 {
-        Order::Before
+        Ordering::Less
     } else {
-        Order::After
+        Ordering::Greater
     }
 }

@@ -6,8 +6,8 @@ use mathlib.Core.List.{List, [], ◌∷◌, ◌++◌, map}
 use Prim.Native.Nat.{suc, ◌≤◌, zero-le}
 use native.Mathlib.Omega.{arith}
 use lib.ListN.{length}
-use Rattle.definitions.specs.declared.Order.{Order}
-use Rattle.definitions.specs.declared.Order.TheVariants.{Before, Same, After}
+use Rattle.std.specs.declared.cmp.Ordering.{Ordering}
+use Rattle.std.specs.declared.cmp.Ordering.TheVariants.{Less, Equal, Greater}
 use Rattle.definitions.specs.Ascending.{put, insert, ascending}
 use Rattle.definitions.specs.Statements.{Member, Orders, StrictlyAscending}
 use Rattle.definitions.proofs.Lists.{map-member}
@@ -30,10 +30,10 @@ once_map f (x ∷ l) g o = (
   once_map f l (λ y z p q. g y z (inr p) (inr q)) o.1,
 )
 
-module _ {A : Type 0} {compare : A → A → Order} (laws : Orders compare) where
+module _ {A : Type 0} {compare : A → A → Ordering} (laws : Orders compare) where
   -- a function that keeps the order of the list's elements keeps the list ascending
-  pub strict_map : {B : Type 0} {compare₂ : B → B → Order} (laws₂ : Orders compare₂) (f : A → B) (l : List A)
-      → ((x y : A) → Member x l → Member y l → compare x y ≡ Before → compare₂ (f x) (f y) ≡ Before)
+  pub strict_map : {B : Type 0} {compare₂ : B → B → Ordering} (laws₂ : Orders compare₂) (f : A → B) (l : List A)
+      → ((x y : A) → Member x l → Member y l → compare x y ≡ Less → compare₂ (f x) (f y) ≡ Less)
       → StrictlyAscending compare l → StrictlyAscending compare₂ (map f l)
   strict_map laws₂ f [] g h = h
   strict_map laws₂ f (x ∷ l) g h = (
@@ -44,10 +44,10 @@ module _ {A : Type 0} {compare : A → A → Order} (laws : Orders compare) wher
 
   -- ---- the elements of a list and one more
 
-  put_new : (r u : A) (t i : List A) (o : Order) → compare r u ≡ o → (r ≡ u → ⊥) → length i ≡ suc (length t) → length (put o r u t i) ≡ suc (suc (length t))
-  put_new r u t i Before e d h = refl
-  put_new r u t i Same e d h = absurd (d (laws.same r u e))
-  put_new r u t i After e d h = ap suc h
+  put_new : (r u : A) (t i : List A) (o : Ordering) → compare r u ≡ o → (r ≡ u → ⊥) → length i ≡ suc (length t) → length (put o r u t i) ≡ suc (suc (length t))
+  put_new r u t i Less e d h = refl
+  put_new r u t i Equal e d h = absurd (d (laws.same r u e))
+  put_new r u t i Greater e d h = ap suc h
 
   insert_new : (r : A) (t : List A) → (Member r t → ⊥) → length (insert compare r t) ≡ suc (length t)
   unfolding insert
@@ -84,5 +84,5 @@ module _ {A : Type 0} {compare : A → A → Order} (laws : Orders compare) wher
       let w = without x m (f x (inl refl)) in
       let le : length l ≤ length w.rest =
       no_longer l w.rest h.1
-      (λ y k. w.keeps y (λ e. not_before_self laws x (subst (λ (z : A). compare x z ≡ Before) e (above_at laws x y l h.0 k))) (f y (inr k))) in
+      (λ y k. w.keeps y (λ e. not_before_self laws x (subst (λ (z : A). compare x z ≡ Less) e (above_at laws x y l h.0 k))) (f y (inr k))) in
       omega (arith, w.shorter)

@@ -7,8 +7,8 @@ use Prim.Native.Nat.{ℕ, zero, suc, ◌+◌, ◌-◌, ◌*◌, ◌/◌, ◌^◌
 use native.Mathlib.Nat.{suc-mul, zero-mul}
 use native.Mathlib.Omega.{arith}
 use lib.ListN.{length, get_or, take, drop, length-append, length-take, length-drop, length-map}
-use Rattle.definitions.specs.declared.Order.{Order}
-use Rattle.definitions.specs.declared.Order.TheVariants.{Before, Same, After}
+use Rattle.std.specs.declared.cmp.Ordering.{Ordering}
+use Rattle.std.specs.declared.cmp.Ordering.TheVariants.{Less, Equal, Greater}
 use Rattle.definitions.specs.Limits.{mark_words, set_width}
 use Rattle.definitions.specs.Lists.{without}
 use Rattle.definitions.specs.Image.{image_of}
@@ -59,11 +59,11 @@ set_list-length columns rows =
 
 -- ---- no more distinct elements than elements
 
-module _ {A : Type 0} (compare : A → A → Order) where
-  put-length : (o : Order) (a b : A) (t i : List A) → length i ≤ suc (length t) → length (put o a b t i) ≤ suc (suc (length t))
-  put-length Before a b t i h = omega arith
-  put-length Same a b t i h = omega arith
-  put-length After a b t i h = omega arith
+module _ {A : Type 0} (compare : A → A → Ordering) where
+  put-length : (o : Ordering) (a b : A) (t i : List A) → length i ≤ suc (length t) → length (put o a b t i) ≤ suc (suc (length t))
+  put-length Less a b t i h = omega arith
+  put-length Equal a b t i h = omega arith
+  put-length Greater a b t i h = omega arith
 
   pub insert-length : (a : A) (t : List A) → length (insert compare a t) ≤ suc (length t)
   unfolding insert

@@ -10,8 +10,8 @@ use native.Mathlib.Omega.{arith}
 use lib.ListN.{length, get_or, take, drop, take-append-drop}
 use lib.Seq.{take-suc}
 use borrow.Author.Tests.{not-true}
-use Rattle.definitions.specs.declared.Order.{Order}
-use Rattle.definitions.specs.declared.Order.TheVariants.{Before}
+use Rattle.std.specs.declared.cmp.Ordering.{Ordering}
+use Rattle.std.specs.declared.cmp.Ordering.TheVariants.{Less}
 use Rattle.definitions.specs.Lists.{all, any, filter, find_index, distinct, all_below, sum_below}
 use Rattle.definitions.specs.Statements.{Member, Orders, BeforeAll, StrictlyAscending}
 use Rattle.definitions.proofs.Bools.{bool_cases, clash, not_so, and_l, and_r, and_i, or_cases, or_l, or_r}
@@ -172,7 +172,7 @@ module _ {A : Type 0} (p : A → Bool) where
   filter-all [] f = refl
   filter-all (x ∷ l) f = rw (f x (inl refl)) (ap (λ (r : List A). x ∷ r) (filter-all l (λ y h. f y (inr h))))
 
-  module _ (compare : A → A → Order) where
+  module _ (compare : A → A → Ordering) where
     pub above_filter : (a : A) (l : List A) → BeforeAll compare a l → BeforeAll compare a (filter p l)
     unfolding filter
     above_filter a [] h = tt
@@ -224,13 +224,13 @@ module _ {A : Type 0} (p : A → Bool) where
       (λ q. rw q (ap suc (find_index_none l (not_so (any p l) (λ r. clash (or_r (p x) (any p l) r) e)))))
 
 -- of a strictly ascending list, each element has one index: its own
-pub find_index-strict : {A : Type 0} {compare : A → A → Order} (laws : Orders compare) (same : A → A → Bool) (is : (a b : A) → (same a b ≡ true) ↔ (a ≡ b))
+pub find_index-strict : {A : Type 0} {compare : A → A → Ordering} (laws : Orders compare) (same : A → A → Bool) (is : (a b : A) → (same a b ≡ true) ↔ (a ≡ b))
     (d : A) (l : List A) (k : ℕ) → StrictlyAscending compare l → k < length l → find_index (same (get_or l k d)) l ≡ k
 find_index-strict {A} {compare} laws same is d l k strict h =
     find_index_of (same (get_or l k d)) d l k h ((is (get_or l k d) (get_or l k d)).1 refl)
     (λ j i. not_so (same (get_or l k d) (get_or l j d)) (λ e.
     not_before_self laws (get_or l j d)
-    (subst (λ (x : A). compare (get_or l j d) x ≡ Before) ((is (get_or l k d) (get_or l j d)).0 e) (strict-get laws d l j k strict i h))))
+    (subst (λ (x : A). compare (get_or l j d) x ≡ Less) ((is (get_or l k d) (get_or l j d)).0 e) (strict-get laws d l j k strict i h))))
 
 -- ---- distinct elements
 
@@ -245,14 +245,14 @@ module _ {A : Type 0} (same : A → A → Bool) (d : A) where
       distinct_true l (and_r (not (any (same x) l)) (distinct same l) e) i j (le_of_suc-le-suc h) (le_of_suc-le-suc g)
 
 -- a strictly ascending list
-pub distinct-strict : {A : Type 0} {compare : A → A → Order} (laws : Orders compare) (same : A → A → Bool)
+pub distinct-strict : {A : Type 0} {compare : A → A → Ordering} (laws : Orders compare) (same : A → A → Bool)
     → ((a b : A) → same a b ≡ true → a ≡ b) → (l : List A) → StrictlyAscending compare l → distinct same l ≡ true
 unfolding distinct
 distinct-strict laws same is [] h = refl
 distinct-strict {A} {compare} laws same is (x ∷ l) h =
     and_i
     (ap not (any_none (same x) l (λ y k. not_so (same x y) (λ e.
-    not_before_self laws x (subst (λ (z : A). compare x z ≡ Before) (sym (is x y e)) (above_at laws x y l h.0 k))))))
+    not_before_self laws x (subst (λ (z : A). compare x z ≡ Less) (sym (is x y e)) (above_at laws x y l h.0 k))))))
     (distinct-strict laws same is l h.1)
 
 -- ---- numbers below a bound

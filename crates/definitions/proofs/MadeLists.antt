@@ -8,7 +8,7 @@ use lib.Dec.{ltb}
 use lib.ListN.{length, replicate, length-map}
 use lib.Seq.{take_at}
 use borrow.Author.Tests.{eq-eqb, lt-ltb}
-use Rattle.definitions.specs.declared.Order.TheVariants.{Before}
+use Rattle.std.specs.declared.cmp.Ordering.TheVariants.{Less}
 use Rattle.definitions.specs.Limits.{mark_words, set_width, max_union_rows, max_sets, marks_per_word}
 use Rattle.definitions.specs.Lists.{all}
 use Rattle.definitions.specs.Word.{kind_of, word_of, header_spare, header_word}
@@ -107,8 +107,8 @@ module _ (columns : List ℕ) (t : List (List ℕ)) (few : length (union_sets co
     made_entry_lem : read_record mark_words (set_record columns t s) ≡ entry_words (made_entry columns t s)
     made_entry_lem = ap₂ (λ (l : List ℕ) (p : ℕ). entry_words (record { members = l; position_of_joined = p })) made_positions made_position
 
-  made_order : (s u : List Bool) → Member s (union_sets columns t) → Member u (union_sets columns t) → compare_set s u ≡ Before
-      → compare_set (set_in mark_words (set_record columns t s)) (set_in mark_words (set_record columns t u)) ≡ Before
+  made_order : (s u : List Bool) → Member s (union_sets columns t) → Member u (union_sets columns t) → compare_set s u ≡ Less
+      → compare_set (set_in mark_words (set_record columns t s)) (set_in mark_words (set_record columns t u)) ≡ Less
   made_order s u h g e =
       ap₂ compare_set (made_set s h) (made_set u g)
       ∙ set_behind s u (replicate (marks_per_word * mark_words - length t) false) (size s h ∙ sym (size u g))

@@ -7,7 +7,7 @@ use native.Mathlib.Omega.{arith}
 use lib.Dec.{ltb}
 use lib.ListN.{length, get_or}
 use borrow.Author.Tests.{ltb-true, ltb-false}
-use Rattle.definitions.specs.declared.Order.TheVariants.{Before}
+use Rattle.std.specs.declared.cmp.Ordering.TheVariants.{Less}
 use Rattle.definitions.specs.OuterUnion.{compare_row}
 use Rattle.definitions.specs.ComplementUnion.{complement, contains, adjacent_to_all, complement_at, members}
 use Rattle.definitions.specs.Statements.{Member, StrictlyAscending}
@@ -23,7 +23,7 @@ use Rattle.definitions.proofs.Joined.{members_are}
 -- different positions of an ascending list have different rows
 apart_by : (t : List (List ℕ)) → StrictlyAscending compare_row t → (j k : ℕ) → j < k → k < length t → get_or t j [] ≡ get_or t k [] → ⊥
 apart_by t h j k p q e =
-    not_before_self rows (get_or t k []) (subst (λ (r : List ℕ). compare_row r (get_or t k []) ≡ Before) e (strict-get rows [] t j k h p q))
+    not_before_self rows (get_or t k []) (subst (λ (r : List ℕ). compare_row r (get_or t k []) ≡ Less) e (strict-get rows [] t j k h p q))
 
 rows_apart : (t : List (List ℕ)) → StrictlyAscending compare_row t → (j k : ℕ) → j < length t → k < length t → get_or t j [] ≡ get_or t k [] → j ≡ k
 rows_apart t h j k p q e =

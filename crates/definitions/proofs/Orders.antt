@@ -7,31 +7,31 @@ use native.Mathlib.Omega.{arith}
 use lib.Dec.{ltb}
 use lib.ListN.{length}
 use borrow.Author.Tests.{lt-ltb, le-ltb, ltb-true, ltb-false}
-use Rattle.definitions.specs.declared.Order.{Order}
-use Rattle.definitions.specs.declared.Order.TheVariants.{Before, Same, After}
+use Rattle.std.specs.declared.cmp.Ordering.{Ordering}
+use Rattle.std.specs.declared.cmp.Ordering.TheVariants.{Less, Equal, Greater}
 use Rattle.definitions.specs.OuterUnion.{compare_word, then_by, compare_row}
 use Rattle.definitions.specs.ComplementUnion.{compare_set, subsets}
 use Rattle.definitions.specs.Statements.{Orders, BeforeAll, StrictlyAscending}
 use Rattle.definitions.proofs.Ascending.{above_append}
 
 -- two different cases of an order
-pub before≢same : {A : Type 0} → Before ≡ Same → A
+pub before≢same : {A : Type 0} → Less ≡ Equal → A
 before≢same e = absurd (let z : ◌≡◌ {A = ℕ} 0 1 = cc in omega arith)
 
-pub before≢after : {A : Type 0} → Before ≡ After → A
+pub before≢after : {A : Type 0} → Less ≡ Greater → A
 before≢after e = absurd (let z : ◌≡◌ {A = ℕ} 0 1 = cc in omega arith)
 
-pub same≢after : {A : Type 0} → Same ≡ After → A
+pub same≢after : {A : Type 0} → Equal ≡ Greater → A
 same≢after e = absurd (let z : ◌≡◌ {A = ℕ} 0 1 = cc in omega arith)
 
 -- ---- words
 
-data View (x y : ℕ) : Order → Type 0 where
-  below : x < y → View x y Before
-  equal : x ≡ y → View x y Same
-  above : y < x → View x y After
+data View (x y : ℕ) : Ordering → Type 0 where
+  below : x < y → View x y Less
+  equal : x ≡ y → View x y Equal
+  above : y < x → View x y Greater
 
-view_by : (x y : ℕ) (a b : Bool) → ltb x y ≡ a → ltb y x ≡ b → View x y (cond a Before (cond b After Same))
+view_by : (x y : ℕ) (a b : Bool) → ltb x y ≡ a → ltb y x ≡ b → View x y (cond a Less (cond b Greater Equal))
 view_by x y true b e f = below (ltb-true x y e)
 view_by x y false true e f = above (ltb-true y x f)
 view_by x y false false e f = equal (omega (arith, ltb-false x y e, ltb-false y x f))
@@ -39,26 +39,26 @@ view_by x y false false e f = equal (omega (arith, ltb-false x y e, ltb-false y 
 view : (x y : ℕ) → View x y (compare_word x y)
 view x y = view_by x y (ltb x y) (ltb y x) refl refl
 
-pub word_before : (x y : ℕ) → x < y → compare_word x y ≡ Before
+pub word_before : (x y : ℕ) → x < y → compare_word x y ≡ Less
 word_before x y h = rw (lt-ltb x y h)
 
-pub word_after : (x y : ℕ) → y < x → compare_word x y ≡ After
+pub word_after : (x y : ℕ) → y < x → compare_word x y ≡ Greater
 word_after x y h = rw (le-ltb x y (omega arith), lt-ltb y x h)
 
-pub word_self : (x : ℕ) → compare_word x x ≡ Same
+pub word_self : (x : ℕ) → compare_word x x ≡ Equal
 word_self x = rw (le-ltb x x (omega arith))
 
-same_of : (x y : ℕ) (o : Order) → View x y o → o ≡ Same → x ≡ y
+same_of : (x y : ℕ) (o : Ordering) → View x y o → o ≡ Equal → x ≡ y
 same_of x y o (below h) e = before≢same e
 same_of x y o (equal h) e = h
 same_of x y o (above h) e = same≢after (sym e)
 
-before_of : (x y : ℕ) (o : Order) → View x y o → o ≡ Before → x < y
+before_of : (x y : ℕ) (o : Ordering) → View x y o → o ≡ Less → x < y
 before_of x y o (below h) e = h
 before_of x y o (equal h) e = before≢same (sym e)
 before_of x y o (above h) e = before≢after (sym e)
 
-after_of : (x y : ℕ) (o : Order) → View x y o → o ≡ After → y < x
+after_of : (x y : ℕ) (o : Ordering) → View x y o → o ≡ Greater → y < x
 after_of x y o (below h) e = before≢after e
 after_of x y o (equal h) e = same≢after e
 after_of x y o (above h) e = h
@@ -73,38 +73,38 @@ words = record {
 
 -- ---- rows: the first column that differs decides
 
-row_same : (s t : List ℕ) → compare_row s t ≡ Same → s ≡ t
+row_same : (s t : List ℕ) → compare_row s t ≡ Equal → s ≡ t
 unfolding compare_row
 row_same [] [] e = refl
 row_same [] (y ∷ t) e = before≢same e
 row_same (x ∷ s) [] e = same≢after (sym e)
 row_same (x ∷ s) (y ∷ t) e = step (row_same s t) (compare_word x y) refl e
   where
-    step : (compare_row s t ≡ Same → s ≡ t) → (o : Order) → compare_word x y ≡ o → then_by o (compare_row s t) ≡ Same → x ∷ s ≡ y ∷ t
-    step ih Before p q = before≢same q
-    step ih Same p q = ap₂ (λ (a : ℕ) (l : List ℕ). a ∷ l) (words.same x y p) (ih q)
-    step ih After p q = same≢after (sym q)
+    step : (compare_row s t ≡ Equal → s ≡ t) → (o : Ordering) → compare_word x y ≡ o → then_by o (compare_row s t) ≡ Equal → x ∷ s ≡ y ∷ t
+    step ih Less p q = before≢same q
+    step ih Equal p q = ap₂ (λ (a : ℕ) (l : List ℕ). a ∷ l) (words.same x y p) (ih q)
+    step ih Greater p q = same≢after (sym q)
 
-row_self : (s : List ℕ) → compare_row s s ≡ Same
+row_self : (s : List ℕ) → compare_row s s ≡ Equal
 unfolding compare_row
 row_self [] = refl
-row_self (x ∷ s) = ap (λ (o : Order). then_by o (compare_row s s)) (word_self x) ∙ row_self s
+row_self (x ∷ s) = ap (λ (o : Ordering). then_by o (compare_row s s)) (word_self x) ∙ row_self s
 
-row_flip : (s t : List ℕ) → compare_row s t ≡ After → compare_row t s ≡ Before
+row_flip : (s t : List ℕ) → compare_row s t ≡ Greater → compare_row t s ≡ Less
 unfolding compare_row
 row_flip [] [] e = same≢after e
 row_flip [] (y ∷ t) e = before≢after e
 row_flip (x ∷ s) [] e = refl
 row_flip (x ∷ s) (y ∷ t) e = step (row_flip s t) (compare_word x y) refl e
   where
-    step : (compare_row s t ≡ After → compare_row t s ≡ Before) → (o : Order) → compare_word x y ≡ o → then_by o (compare_row s t) ≡ After
-        → then_by (compare_word y x) (compare_row t s) ≡ Before
-    step ih Before p q = before≢after q
-    step ih Same p q =
+    step : (compare_row s t ≡ Greater → compare_row t s ≡ Less) → (o : Ordering) → compare_word x y ≡ o → then_by o (compare_row s t) ≡ Greater
+        → then_by (compare_word y x) (compare_row t s) ≡ Less
+    step ih Less p q = before≢after q
+    step ih Equal p q =
         ap₂ then_by (ap₂ compare_word (sym (words.same x y p)) (words.same x y p) ∙ p) (ih q)
-    step ih After p q = ap (λ (o : Order). then_by o (compare_row t s)) (words.flip x y p)
+    step ih Greater p q = ap (λ (o : Ordering). then_by o (compare_row t s)) (words.flip x y p)
 
-row_trans : (s t u : List ℕ) → compare_row s t ≡ Before → compare_row t u ≡ Before → compare_row s u ≡ Before
+row_trans : (s t u : List ℕ) → compare_row s t ≡ Less → compare_row t u ≡ Less → compare_row s u ≡ Less
 unfolding compare_row
 row_trans [] [] u e f = before≢same (sym e)
 row_trans [] (y ∷ t) [] e f = before≢after (sym f)
@@ -113,25 +113,25 @@ row_trans (x ∷ s) [] u e f = before≢after (sym e)
 row_trans (x ∷ s) (y ∷ t) [] e f = before≢after (sym f)
 row_trans (x ∷ s) (y ∷ t) (z ∷ u) e f = step (row_trans s t u) (compare_word x y) (compare_word y z) refl refl e f
   where
-    step : (compare_row s t ≡ Before → compare_row t u ≡ Before → compare_row s u ≡ Before) → (o p : Order) → compare_word x y ≡ o → compare_word y z ≡ p
-        → then_by o (compare_row s t) ≡ Before → then_by p (compare_row t u) ≡ Before
-        → then_by (compare_word x z) (compare_row s u) ≡ Before
-    step ih Before Before a b g h = ap (λ (o : Order). then_by o (compare_row s u)) (words.trans x y z a b)
-    step ih Before Same a b g h = ap (λ (o : Order). then_by o (compare_row s u)) (ap (compare_word x) (sym (words.same y z b)) ∙ a)
-    step ih Before After a b g h = before≢after (sym h)
-    step ih Same Before a b g h = ap (λ (o : Order). then_by o (compare_row s u)) (ap (λ (w : ℕ). compare_word w z) (words.same x y a) ∙ b)
-    step ih Same Same a b g h = ap₂ then_by (ap (compare_word x) (sym (words.same y z b)) ∙ a) (ih g h)
-    step ih Same After a b g h = before≢after (sym h)
-    step ih After Before a b g h = before≢after (sym g)
-    step ih After Same a b g h = before≢after (sym g)
-    step ih After After a b g h = before≢after (sym g)
+    step : (compare_row s t ≡ Less → compare_row t u ≡ Less → compare_row s u ≡ Less) → (o p : Ordering) → compare_word x y ≡ o → compare_word y z ≡ p
+        → then_by o (compare_row s t) ≡ Less → then_by p (compare_row t u) ≡ Less
+        → then_by (compare_word x z) (compare_row s u) ≡ Less
+    step ih Less Less a b g h = ap (λ (o : Ordering). then_by o (compare_row s u)) (words.trans x y z a b)
+    step ih Less Equal a b g h = ap (λ (o : Ordering). then_by o (compare_row s u)) (ap (compare_word x) (sym (words.same y z b)) ∙ a)
+    step ih Less Greater a b g h = before≢after (sym h)
+    step ih Equal Less a b g h = ap (λ (o : Ordering). then_by o (compare_row s u)) (ap (λ (w : ℕ). compare_word w z) (words.same x y a) ∙ b)
+    step ih Equal Equal a b g h = ap₂ then_by (ap (compare_word x) (sym (words.same y z b)) ∙ a) (ih g h)
+    step ih Equal Greater a b g h = before≢after (sym h)
+    step ih Greater Less a b g h = before≢after (sym g)
+    step ih Greater Equal a b g h = before≢after (sym g)
+    step ih Greater Greater a b g h = before≢after (sym g)
 
 pub rows : Orders compare_row
 rows = record { same = row_same; self = row_self; flip = row_flip; trans = row_trans }
 
 -- ---- sets
 
-set_same : (s t : List Bool) → compare_set s t ≡ Same → s ≡ t
+set_same : (s t : List Bool) → compare_set s t ≡ Equal → s ≡ t
 unfolding compare_set
 set_same [] [] e = refl
 set_same [] (m ∷ t) e = before≢same e
@@ -141,13 +141,13 @@ set_same (true ∷ s) (false ∷ t) e = before≢same e
 set_same (false ∷ s) (true ∷ t) e = same≢after (sym e)
 set_same (false ∷ s) (false ∷ t) e = ap (λ (l : List Bool). false ∷ l) (set_same s t e)
 
-set_self : (s : List Bool) → compare_set s s ≡ Same
+set_self : (s : List Bool) → compare_set s s ≡ Equal
 unfolding compare_set
 set_self [] = refl
 set_self (true ∷ s) = set_self s
 set_self (false ∷ s) = set_self s
 
-set_flip : (s t : List Bool) → compare_set s t ≡ After → compare_set t s ≡ Before
+set_flip : (s t : List Bool) → compare_set s t ≡ Greater → compare_set t s ≡ Less
 unfolding compare_set
 set_flip [] [] e = same≢after e
 set_flip [] (m ∷ t) e = before≢after e
@@ -157,7 +157,7 @@ set_flip (true ∷ s) (false ∷ t) e = before≢after e
 set_flip (false ∷ s) (true ∷ t) e = refl
 set_flip (false ∷ s) (false ∷ t) e = set_flip s t e
 
-set_trans : (s t u : List Bool) → compare_set s t ≡ Before → compare_set t u ≡ Before → compare_set s u ≡ Before
+set_trans : (s t u : List Bool) → compare_set s t ≡ Less → compare_set t u ≡ Less → compare_set s u ≡ Less
 unfolding compare_set
 set_trans [] [] u e f = before≢same (sym e)
 set_trans [] (m ∷ t) [] e f = before≢after (sym f)
@@ -187,15 +187,15 @@ set-append (true ∷ s) (false ∷ t) more other e = refl
 set-append (false ∷ s) (true ∷ t) more other e = refl
 set-append (false ∷ s) (false ∷ t) more other e = set-append s t more other (omega arith)
 
-pub then_same : (o : Order) → then_by o Same ≡ o
-then_same Before = refl
-then_same Same = refl
-then_same After = refl
+pub then_same : (o : Ordering) → then_by o Equal ≡ o
+then_same Less = refl
+then_same Equal = refl
+then_same Greater = refl
 
-pub then_first : (o later : Order) → (o ≡ Same → ⊥) → then_by o later ≡ o
-then_first Before later d = refl
-then_first Same later d = absurd (d refl)
-then_first After later d = refl
+pub then_first : (o later : Ordering) → (o ≡ Equal → ⊥) → then_by o later ≡ o
+then_first Less later d = refl
+then_first Equal later d = absurd (d refl)
+then_first Greater later d = refl
 
 -- the same positions behind two sets leave their order
 pub set_behind : (s t rest : List Bool) → length s ≡ length t → compare_set (s ++ rest) (t ++ rest) ≡ compare_set s t

@@ -5,7 +5,7 @@ use mathlib.Core.Logic.{◌⊎◌, inl, inr, ⊎_elim, ◌↔◌}
 use mathlib.Core.List.{List, ◌++◌, map}
 use Prim.Native.Nat.{ℕ, ◌+◌, ◌*◌}
 use lib.ListN.{length, length-map}
-use Rattle.definitions.specs.declared.Order.{Order}
+use Rattle.std.specs.declared.cmp.Ordering.{Ordering}
 use Rattle.definitions.specs.Image.{image_ids, image_rows}
 use Rattle.definitions.specs.Ascending.{ascending}
 use Rattle.definitions.specs.OuterUnion.{compare_word, compare_row, union_ids, union_columns, cell_in, widened, widened_rows, union_rows}
@@ -24,7 +24,7 @@ use Rattle.definitions.proofs.Counts.{image_length_lem}
 
 -- ---- over any order
 
-module _ {A : Type 0} {compare : A → A → Order} (laws : Orders compare) where
+module _ {A : Type 0} {compare : A → A → Ordering} (laws : Orders compare) where
   pub ascending_are : (l : List A) (x : A) → Member x (ascending compare l) ↔ Member x l
   ascending_are l x = (ascending_only laws x l, ascending-has laws x l)
 

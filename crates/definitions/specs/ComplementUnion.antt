@@ -1,8 +1,8 @@
 -- Document 01, "Complementation and complement union", with request A2's condition (3): complementing rows, maximal
 -- complementing sets in set order, and the fused table. `columns` are the union's column words.
 use Rattle.std.specs.Prelude.{ℕ, zero, suc, Bool, true, false, cond, not, ◌&&◌, ◌||◌, List, [], ◌∷◌, ◌++◌, map, eqb, length, get_or}
-use Rattle.definitions.specs.declared.Order.{Order}
-use Rattle.definitions.specs.declared.Order.TheVariants.{Before, Same, After}
+use Rattle.std.specs.declared.cmp.Ordering.{Ordering}
+use Rattle.std.specs.declared.cmp.Ordering.TheVariants.{Less, Equal, Greater}
 use Rattle.definitions.specs.Lists.{any, filter, all_below}
 use Rattle.definitions.specs.Word.{mark_of, is_filled}
 use Rattle.definitions.specs.Ascending.{ascending}
@@ -54,13 +54,13 @@ contains (b ∷ s) (suc k) = contains s k
 
 -- set order, a term of document 01: "Of two sets, look at the smallest position that only one of them holds: the set with
 -- it comes first."
-unfoldable pub compare_set : List Bool → List Bool → Order
-compare_set [] [] = Same
-compare_set [] (m ∷ t) = Before
-compare_set (m ∷ s) [] = After
+unfoldable pub compare_set : List Bool → List Bool → Ordering
+compare_set [] [] = Equal
+compare_set [] (m ∷ t) = Less
+compare_set (m ∷ s) [] = Greater
 compare_set (true ∷ s) (true ∷ t) = compare_set s t
-compare_set (true ∷ s) (false ∷ t) = Before
-compare_set (false ∷ s) (true ∷ t) = After
+compare_set (true ∷ s) (false ∷ t) = Less
+compare_set (false ∷ s) (true ∷ t) = Greater
 compare_set (false ∷ s) (false ∷ t) = compare_set s t
 
 -- all sets of positions below n, in set order

@@ -1,26 +1,26 @@
 -- Document 01, "Outer union", and request A2's marks: the columns of the union, rows widened by empty cells, and T.
 use Rattle.std.specs.Prelude.{ℕ, Bool, cond, ◌&&◌, ◌||◌, List, [], ◌∷◌, ◌++◌, map, eqb, ltb, get_or}
-use Rattle.definitions.specs.declared.Order.{Order}
-use Rattle.definitions.specs.declared.Order.TheVariants.{Before, Same, After}
+use Rattle.std.specs.declared.cmp.Ordering.{Ordering}
+use Rattle.std.specs.declared.cmp.Ordering.TheVariants.{Less, Equal, Greater}
 use Rattle.definitions.specs.Lists.{any, find_index}
 use Rattle.definitions.specs.Word.{id_of, mark_of, column_word}
 use Rattle.definitions.specs.Image.{column_words, image_ids, image_rows}
 use Rattle.definitions.specs.Ascending.{ascending}
 
 -- words as unsigned numbers
-abbrev pub compare_word : ℕ → ℕ → Order
-compare_word x y = cond (ltb x y) Before (cond (ltb y x) After Same)
+abbrev pub compare_word : ℕ → ℕ → Ordering
+compare_word x y = cond (ltb x y) Less (cond (ltb y x) Greater Equal)
 
-abbrev pub then_by : Order → Order → Order
-then_by Before later = Before
-then_by Same later = later
-then_by After later = After
+abbrev pub then_by : Ordering → Ordering → Ordering
+then_by Less later = Less
+then_by Equal later = later
+then_by Greater later = Greater
 
 -- "rows are compared by their words as unsigned numbers, first column first"
-unfoldable pub compare_row : List ℕ → List ℕ → Order
-compare_row [] [] = Same
-compare_row [] (y ∷ t) = Before
-compare_row (x ∷ s) [] = After
+unfoldable pub compare_row : List ℕ → List ℕ → Ordering
+compare_row [] [] = Equal
+compare_row [] (y ∷ t) = Less
+compare_row (x ∷ s) [] = Greater
 compare_row (x ∷ s) (y ∷ t) = then_by (compare_word x y) (compare_row s t)
 
 -- "Its columns are the ids of both tables, ascending, each once."

@@ -1,8 +1,8 @@
 -- The words in which theorems over the definitions are stated: an element is a member of a list, a list is strictly ascending, a comparison
 -- is a strict total order.
 use Rattle.std.specs.Prelude.{◌≡◌, ◌⊎◌, List, [], ◌∷◌}
-use Rattle.definitions.specs.declared.Order.{Order}
-use Rattle.definitions.specs.declared.Order.TheVariants.{Before, Same, After}
+use Rattle.std.specs.declared.cmp.Ordering.{Ordering}
+use Rattle.std.specs.declared.cmp.Ordering.TheVariants.{Less, Equal, Greater}
 
 -- a is a member of the list
 abbrev pub Member : {A : Type 0} → A → List A → Type 0
@@ -10,17 +10,17 @@ Member a [] = ⊥
 Member a (b ∷ rest) = (a ≡ b) ⊎ Member a rest
 
 -- a strict total order: of two elements one comes before the other, or they are equal
-pub record Orders {A : Type 0} (compare : A → A → Order) : Type 0 where
-  pub same : (a b : A) → compare a b ≡ Same → a ≡ b
-  pub self : (a : A) → compare a a ≡ Same
-  pub flip : (a b : A) → compare a b ≡ After → compare b a ≡ Before
-  pub trans : (a b c : A) → compare a b ≡ Before → compare b c ≡ Before → compare a c ≡ Before
+pub record Orders {A : Type 0} (compare : A → A → Ordering) : Type 0 where
+  pub same : (a b : A) → compare a b ≡ Equal → a ≡ b
+  pub self : (a : A) → compare a a ≡ Equal
+  pub flip : (a b : A) → compare a b ≡ Greater → compare b a ≡ Less
+  pub trans : (a b c : A) → compare a b ≡ Less → compare b c ≡ Less → compare a c ≡ Less
 
-module _ {A : Type 0} (compare : A → A → Order) where
+module _ {A : Type 0} (compare : A → A → Ordering) where
   -- a comes before every element of the list
   abbrev pub BeforeAll : A → List A → Type 0
   BeforeAll a [] = Unit {0}
-  BeforeAll a (b ∷ rest) = (compare a b ≡ Before) × BeforeAll a rest
+  BeforeAll a (b ∷ rest) = (compare a b ≡ Less) × BeforeAll a rest
 
   -- strictly ascending: each element comes before all that follow it
   abbrev pub StrictlyAscending : List A → Type 0

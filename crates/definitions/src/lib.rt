@@ -1,4 +1,4 @@
-// What code and definitions share: the limits, the order of two elements, and the answers of the calls.
+// What code and definitions share: the limits and the answers of the calls.
 #![tactic(auto)]
 
 mod limits;
@@ -7,14 +7,6 @@ pub use limits::{
     MARK_WORDS, MARKS_PER_WORD, MAX_COLUMNS, MAX_IDS, MAX_ROWS, MAX_SETS, MAX_STORED_ROWS,
     MAX_UNION_ROWS, SET_WIDTH,
 };
-
-// The first of two elements comes before the second, is the same, or comes after it.
-#[derive(Drop)]
-pub enum Order {
-    Before,
-    Same,
-    After,
-}
 
 // The answer of outer union: done with its counts, or refused with number and table.
 #[derive(Drop)]

@@ -1,5 +1,6 @@
 -- Where a row stands among rows that are named by indices in ascending order. What `order_rows` gives is what `position_of` asks: their rows ascend,
 -- and the row of each index below n stands among them. Assumes nothing.
+use Rattle.std.proofs.Common.{Result, Ok, Err}
 use mathlib.Core.Path.{◌≡◌, sym, ◌∙◌, ap, subst}
 use mathlib.Core.List.{List, []}
 use Prim.Native.Nat.{ℕ, ◌+◌, ◌*◌, ◌<◌, ◌≤◌}
@@ -14,11 +15,9 @@ use Rattle.definitions.proofs.Lists.{member-get, find_index-strict}
 use Rattle.definitions.proofs.Ascending.{ascending-has}
 use Rattle.definitions.proofs.Orders.{rows}
 use Rattle.definitions.proofs.Rows.{same_is}
-use Rattle.definitions.specs.declared.Order.{Order}
-use Rattle.definitions.specs.declared.Order.TheVariants.{Before, Same, After}
+use Rattle.std.specs.declared.cmp.Ordering.{Ordering}
+use Rattle.std.specs.declared.cmp.Ordering.TheVariants.{Less, Equal, Greater}
 use Rattle.definitions.specs.Statements.{Member}
-use Rattle.lists.specs.declared.Spot.{Spot}
-use Rattle.lists.specs.declared.Spot.TheVariants.{Free, Taken}
 use Rattle.lists.specs.Spot.{spot_in}
 use Rattle.lists.proofs.Search.{Between, search_starts, search_up, search_down, search_found, search_ends, taken-member, member-not_free}
 use Rattle.lists.proofs.Flat.{rows_at_lem}
@@ -46,29 +45,29 @@ module _ (c m : ℕ) (w o row : List ℕ) (within : m ≤ length o) (ascends : A
   search_all =
       (omega arith, search_starts rows (row_at c w 0) row (rows_at c w (take m o)) ascends.strict m (rows_length_at c w m o within))
 
-  pub search_over : (lo hi : ℕ) → Sought c m w o row lo hi → hi ≤ lo → Free lo ≡ spot_in compare_row row (rows_at c w (take m o))
+  pub search_over : (lo hi : ℕ) → Sought c m w o row lo hi → hi ≤ lo → Err lo ≡ spot_in compare_row row (rows_at c w (take m o))
   search_over lo hi b h = sym (search_ends rows (row_at c w 0) row (rows_at c w (take m o)) ascends.strict lo hi b.1 h)
 
   -- what the comparison with the row of the index at mid tells
-  module _ (lo hi mid : ℕ) (b : Sought c m w o row lo hi) (above : lo ≤ mid) (below : mid < hi) (r : Order) (told : r ≡ compare_row row (row_at c w (get_or o mid 0))) where
-    compared : (s : Order) → r ≡ s → compare_row row (get_or (rows_at c w (take m o)) mid (row_at c w 0)) ≡ s
+  module _ (lo hi mid : ℕ) (b : Sought c m w o row lo hi) (above : lo ≤ mid) (below : mid < hi) (r : Ordering) (told : r ≡ compare_row row (row_at c w (get_or o mid 0))) where
+    compared : (s : Ordering) → r ≡ s → compare_row row (get_or (rows_at c w (take m o)) mid (row_at c w 0)) ≡ s
     compared s e = ap (compare_row row) (row_named c w m mid o (omega (arith, b.0))) ∙ sym told ∙ e
 
-    pub search_before : r ≡ Before → Sought c m w o row lo mid
+    pub search_before : r ≡ Less → Sought c m w o row lo mid
     search_before e =
-        (omega (arith, b.0), search_down rows (row_at c w 0) row (rows_at c w (take m o)) ascends.strict lo hi mid b.1 above below (compared Before e))
+        (omega (arith, b.0), search_down rows (row_at c w 0) row (rows_at c w (take m o)) ascends.strict lo hi mid b.1 above below (compared Less e))
 
-    pub search_after : r ≡ After → Sought c m w o row (mid + 1) hi
+    pub search_after : r ≡ Greater → Sought c m w o row (mid + 1) hi
     search_after e =
-        (b.0, search_up rows (row_at c w 0) row (rows_at c w (take m o)) ascends.strict lo hi mid b.1 above below (compared After e))
+        (b.0, search_up rows (row_at c w 0) row (rows_at c w (take m o)) ascends.strict lo hi mid b.1 above below (compared Greater e))
 
-    pub search_same : r ≡ Same → Taken mid ≡ spot_in compare_row row (rows_at c w (take m o))
+    pub search_same : r ≡ Equal → Ok mid ≡ spot_in compare_row row (rows_at c w (take m o))
     search_same e =
-        sym (search_found rows (row_at c w 0) row (rows_at c w (take m o)) ascends.strict lo hi mid b.1 above below (compared Same e))
+        sym (search_found rows (row_at c w 0) row (rows_at c w (take m o)) ascends.strict lo hi mid b.1 above below (compared Equal e))
 
   -- what the spot that was found tells of the position of a row that stands there
-  module _ (r : Spot) (told : r ≡ spot_in compare_row row (rows_at c w (take m o))) (p : ℕ) where
-    pub position_taken : r ≡ Taken p → (p ≡ find_index (same_row row) (rows_at c w (take m o))) × (p < m)
+  module _ (r : Result ℕ ℕ) (told : r ≡ spot_in compare_row row (rows_at c w (take m o))) (p : ℕ) where
+    pub position_taken : r ≡ Ok p → (p ≡ find_index (same_row row) (rows_at c w (take m o))) × (p < m)
     position_taken e =
         let t = rows_at c w (take m o) in
         let h = taken-member rows [] row t p (sym told ∙ e) in (
@@ -76,5 +75,5 @@ module _ (c m : ℕ) (w o row : List ℕ) (within : m ≤ length o) (ascends : A
           omega (arith, h.0, rows_length_at c w m o within),
         )
 
-    pub never_free : Member row (rows_at c w (take m o)) → r ≡ Free p → ⊥
+    pub never_free : Member row (rows_at c w (take m o)) → r ≡ Err p → ⊥
     never_free h e = member-not_free rows row (rows_at c w (take m o)) p ascends.strict h (sym told ∙ e)

@@ -8,11 +8,10 @@ ghost use Rattle.lists.specs.Spot.{spot_in};
 ghost use Rattle.rows.specs.Indices.{rows_at, AscendingIndices};
 
 use crate::compare::compare_with;
-use definitions::Order;
-use lists::Spot;
+use std::cmp::Ordering;
 
 // Where a row stands, or would stand, among the rows at the first m indices.
-pub(crate) fn find_row(cells: &[u32], order: &[u32], m: usize, row: &[u32]) -> Spot
+pub(crate) fn find_row(cells: &[u32], order: &[u32], m: usize, row: &[u32]) -> Result<usize, usize>
     requires { (m ≤ length order.now) × AscendingIndices (length row.now) cells.now (take m order.now) }
     ensures { result ≡ spot_in compare_row row.now
         (rows_at (length row.now) cells.now (take m order.now)) }
@@ -22,16 +21,16 @@ pub(crate) fn find_row(cells: &[u32], order: &[u32], m: usize, row: &[u32]) -> S
     while lo < hi {
         let mid = lo + (hi - lo) / 2;
         match compare_with(cells, row, order[mid]) {
-            Order::Before => {
+            Ordering::Less => {
                 hi = mid;
             }
-            Order::Same => return Spot::Taken(mid),
-            Order::After => {
+            Ordering::Equal => return Ok(mid),
+            Ordering::Greater => {
                 lo = mid + 1;
             }
         }
     }
-    Spot::Free(lo)
+    Err(lo)
 }
 
 // The position of a row that stands among the rows at the first m indices.
@@ -42,7 +41,7 @@ pub fn position_of(cells: &[u32], order: &[u32], m: usize, row: &[u32]) -> usize
         (rows_at (length row.now) cells.now (take m order.now))) × (result < m) }
 {
     match find_row(cells, order, m, row) {
-        Spot::Taken(p) => p,
-        Spot::Free(_) => 0,
+        Ok(p) => p,
+        Err(_) => 0,
     }
 }

@@ -7,7 +7,7 @@ use native.Mathlib.Omega.{arith}
 use lib.Dec.{eqb, ltb}
 use lib.ListN.{length, get_or, take, drop, length-drop, drop_of_length-le}
 use Rattle.definitions.proofs.Images.{rows_length}
-use Rattle.definitions.specs.declared.Order.{Order}
+use Rattle.std.specs.declared.cmp.Ordering.{Ordering}
 use Rattle.definitions.specs.Limits.{max_sets}
 use Rattle.definitions.specs.Lists.{all}
 use Rattle.definitions.specs.Word.{kind_of}
@@ -97,7 +97,7 @@ module _ (p : List ℕ → Bool) (c n : ℕ) (w : List ℕ) where
       sym (s.left ∙ ap (all p) (drop_of_length-le (rows_in c n w) {i = i} (omega (arith, rows_length c n w))))
 
 -- each row so far comes before the next
-module _ {A : Type 0} (compare : A → A → Order) (f : List ℕ → A) (c n : ℕ) (w : List ℕ) where
+module _ {A : Type 0} (compare : A → A → Ordering) (f : List ℕ → A) (c n : ℕ) (w : List ℕ) where
   abbrev pub ascends : List (List ℕ) → Bool
   ascends rows = is_ascending compare (map f rows)
 

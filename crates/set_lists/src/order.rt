@@ -6,11 +6,12 @@ ghost use Rattle.definitions.specs.Ascending.{is_before, is_ascending};
 ghost use Rattle.definitions.specs.ComplementUnion.{compare_set};
 ghost use Rattle.definitions.specs.Reading.{set_in};
 
-use definitions::{MARK_WORDS, Order, SET_WIDTH};
+use definitions::{MARK_WORDS, SET_WIDTH};
+use std::cmp::Ordering;
 use words::low_bits;
 
 // Set order of the sets that mark words mark: the first two words that differ tell.
-fn compare_marks(a: &[u32], b: &[u32]) -> Order
+fn compare_marks(a: &[u32], b: &[u32]) -> Ordering
     requires { length a.now ≡ length b.now }
     ensures { result ≡ compare_set (set_in (length a.now) a.now)
         (set_in (length b.now) b.now) }
@@ -24,7 +25,7 @@ fn compare_marks(a: &[u32], b: &[u32]) -> Order
         }
         i += 1;
     }
-    Order::Same
+    Ordering::Equal
 }
 
 // Whether the set of a record comes before that of another.
@@ -33,9 +34,9 @@ fn comes_before(a: &[u32], b: &[u32]) -> bool
     ensures { result ≡ is_before (compare_set (set_in mark_words a.now) (set_in mark_words b.now)) }
 {
     match compare_marks(&a[..MARK_WORDS], &b[..MARK_WORDS]) {
-        Order::Before => true,
-        Order::Same => false,
-        Order::After => false,
+        Ordering::Less => true,
+        Ordering::Equal => false,
+        Ordering::Greater => false,
     }
 }
 

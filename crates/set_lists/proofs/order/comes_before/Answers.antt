@@ -6,20 +6,20 @@ use Rattle.definitions.specs.Ascending.{is_before}
 use Rattle.set_lists.proofs.MarkOrder.{front_order}
 use Rattle.set_lists.proofs.order.comes_before.Goals as goal
 
-pub returns-in-Before : goal.returns-in-Before
-returns-in-Before c =
+pub returns-in-Less : goal.returns-in-Less
+returns-in-Less c =
     let s = c.args in
     let r = c.compare_marks in
-    sym (ap is_before c.in-Before.is) ∙ front_order mark_words s.a.now s.b.now (omega arith) (omega arith) r.result r.ensures
+    sym (ap is_before c.in-Less.is) ∙ front_order mark_words s.a.now s.b.now (omega arith) (omega arith) r.result r.ensures
 
-pub returns-in-Same : goal.returns-in-Same
-returns-in-Same c =
+pub returns-in-Equal : goal.returns-in-Equal
+returns-in-Equal c =
     let s = c.args in
     let r = c.compare_marks in
-    sym (ap is_before c.in-Same.is) ∙ front_order mark_words s.a.now s.b.now (omega arith) (omega arith) r.result r.ensures
+    sym (ap is_before c.in-Equal.is) ∙ front_order mark_words s.a.now s.b.now (omega arith) (omega arith) r.result r.ensures
 
-pub returns-in-After : goal.returns-in-After
-returns-in-After c =
+pub returns-in-Greater : goal.returns-in-Greater
+returns-in-Greater c =
     let s = c.args in
     let r = c.compare_marks in
-    sym (ap is_before c.in-After.is) ∙ front_order mark_words s.a.now s.b.now (omega arith) (omega arith) r.result r.ensures
+    sym (ap is_before c.in-Greater.is) ∙ front_order mark_words s.a.now s.b.now (omega arith) (omega arith) r.result r.ensures
