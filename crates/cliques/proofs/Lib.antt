@@ -8,9 +8,9 @@ pub mod Taking
 pub mod Turns
 pub mod Growing
 pub mod PartTurns
-pub mod Insertion
 pub mod Listed
 pub mod Complete
+pub mod Found
 pub mod Subgraph
 pub mod Work
-pub mod Sorting
+pub mod InOrder

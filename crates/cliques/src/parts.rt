@@ -46,10 +46,8 @@ fn common_rows(neighbours: &[u64], part: u64) -> u64
 fn add_to_each(rows: u64, list: &mut [u64])
     ensures { list.new ≡ map (λ s. either s rows) list.old }
 {
-    let mut k = 0;
-    while k < list.len() {
-        list[k] = unite(list[k], rows);
-        k += 1;
+    for set in list {
+        *set = unite(*set, rows);
     }
 }
 

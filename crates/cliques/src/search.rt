@@ -1,12 +1,11 @@
 // The search: row by row, from the maximal sets of the decided rows to those with one row more.
-ghost use Rattle.std.specs.Prelude.{◌≡◌, suc, ◌≤◌, ◌<◌, length, take};
+ghost use Rattle.std.specs.Prelude.{◌≡◌, suc, ◌+◌, ◌≤◌, ◌<◌, [], ◌∷◌, ◌++◌, length, take};
 ghost use Rattle.definitions.specs.Limits.{max_sets};
 ghost use Rattle.bitsets.specs.Bits.{Inside, word_bits};
 ghost use Rattle.cliques.specs.Graph.{adjacent};
 ghost use Rattle.cliques.specs.Maximal.{Clique};
 ghost use Rattle.cliques.specs.Search.{row_of, taken, MayTake, Ran, Ready, Asked, FreeRows, GrowsBack, Decides};
 
-use crate::ordering::append;
 use bitsets::{has_row, is_sub, lowest_row, meet, with_row, without_lowest};
 use definitions::{MAX_SETS, MAX_UNION_ROWS};
 
@@ -60,6 +59,16 @@ fn take_row(neighbours: &[u64], set: u64, i: usize) -> u64
     ensures { result ≡ taken (row_of neighbours.now) set i }
 {
     with_row(meet(set, neighbours[i]), i)
+}
+
+// Puts a set after the first count sets, and gives the grown count.
+fn append(set: u64, list: &mut [u64], count: usize) -> usize
+    requires { count < length list.old }
+    ensures { (result ≡ count + 1)
+        × (take result list.new ≡ take count list.old ++ (set ∷ [])) }
+{
+    list[count] = set;
+    count + 1
 }
 
 // The set is maximal among the decided rows, and `undecided` rows, the rest, are to be decided. Takes the first of them or leaves it, and lists

@@ -11,15 +11,8 @@ fn is_mirrored(neighbours: &[u64], n: usize, j: usize) -> bool
     requires { (j < n) × (n ≤ length neighbours.now) × (n ≤ word_bits) }
     ensures { result ≡ true → Mirrored neighbours.now n j }
 {
-    if has_row(neighbours[j], j) {
-        return false;
-    }
-    for k in 0..n {
-        if has_row(neighbours[j], k) != has_row(neighbours[k], j) {
-            return false;
-        }
-    }
-    true
+    !has_row(neighbours[j], j)
+        && (0..n).all(|k| has_row(neighbours[j], k) == has_row(neighbours[k], j))
 }
 
 // Are the n rows a graph?
@@ -27,10 +20,5 @@ pub(crate) fn is_graph(neighbours: &[u64], n: usize) -> bool
     requires { (n ≤ length neighbours.now) × (n ≤ word_bits) }
     ensures { result ≡ true → Graph neighbours.now n }
 {
-    for j in 0..n {
-        if !is_mirrored(neighbours, n, j) {
-            return false;
-        }
-    }
-    true
+    (0..n).all(|j| is_mirrored(neighbours, n, j))
 }

@@ -1,14 +1,21 @@
 -- Over the promises of the calls: the words that complement union's equations name meet demand 3, and two calls with the
 -- same T, columns and room get the same. Assumes nothing.
 use mathlib.Core.Path.{◌≡◌, refl, sym, ◌∙◌, ap, ap₂, subst}
-use mathlib.Core.Bool.{Bool}
+use mathlib.Core.Bool.{Bool, cond}
+use lib.Dec.{eqb}
 use mathlib.Core.List.{List, [], ◌∷◌, ◌++◌, flatten}
 use Prim.Native.Nat.{ℕ, ◌<◌}
 use native.Mathlib.Omega.{arith}
 use lib.ListN.{length, get_or, take, drop}
 use lib.Seq.{take_at, drop_at}
-use Rattle.definitions.specs.declared.ComplementAnswer.{ComplementAnswer}
-use Rattle.definitions.specs.declared.ComplementAnswer.TheVariants as complement
+use Rattle.std.proofs.Common.{Result, Ok, Err}
+use Rattle.definitions.specs.declared.answers.ComplementCounts.{ComplementCounts}
+use Rattle.definitions.specs.declared.refusal.Question.{Question}
+use Rattle.definitions.specs.declared.refusal.Question.TheVariants as question
+use Rattle.definitions.specs.declared.refusal.Subject.{Subject}
+use Rattle.definitions.specs.declared.refusal.Subject.TheVariants as subject
+use Rattle.definitions.specs.declared.refusal.Refusal.{Refusal}
+use Rattle.definitions.specs.Refusal.{question_number, table_number}
 use Rattle.definitions.specs.Image.{image_of, image_rows}
 use Rattle.definitions.specs.OuterUnion.{compare_row, union_columns, union_rows}
 use Rattle.definitions.specs.MinimumUnion.{filled}
@@ -199,12 +206,70 @@ same_calls a b c d ab cd columns rows table₁ table₂ sets₁ sets₂ room set
       set_words = set_front p ∙ ap₂ written_words e (ap₂ set_list columns rows) ∙ sym (set_front q);
     }
 
+-- a question by its number, and a table by its number
+abbrev question_of : ℕ → Question
+question_of n =
+    (cond (eqb n 1) question.Header
+    (cond (eqb n 2) question.Columns
+    (cond (eqb n 3) question.Rows
+    (cond (eqb n 4) question.Length
+    (cond (eqb n 5) question.ColumnWords
+    (cond (eqb n 6) question.Ids
+    (cond (eqb n 7) question.Cells
+    (cond (eqb n 8) question.UnionColumns
+    (cond (eqb n 9) question.Sets
+    (cond (eqb n 10) question.TableRoom
+    (cond (eqb n 11) question.SetRoom
+    (cond (eqb n 12) question.ListLayout
+    (cond (eqb n 13) question.Records
+    (cond (eqb n 14) question.SetOrder
+    (cond (eqb n 15) question.Page
+    question.PageRoom)))))))))))))))
+
+question_back : (q : Question) → question_of (question_number q) ≡ q
+question_back question.Header = refl
+question_back question.Columns = refl
+question_back question.Rows = refl
+question_back question.Length = refl
+question_back question.ColumnWords = refl
+question_back question.Ids = refl
+question_back question.Cells = refl
+question_back question.UnionColumns = refl
+question_back question.Sets = refl
+question_back question.TableRoom = refl
+question_back question.SetRoom = refl
+question_back question.ListLayout = refl
+question_back question.Records = refl
+question_back question.SetOrder = refl
+question_back question.Page = refl
+question_back question.PageRoom = refl
+
+abbrev subject_of : ℕ → Subject
+subject_of n = cond (eqb n 0) subject.First (cond (eqb n 1) subject.Second subject.Both)
+
+subject_back : (s : Subject) → subject_of (table_number s) ≡ s
+subject_back subject.First = refl
+subject_back subject.Second = refl
+subject_back subject.Both = refl
+
+-- the answer of complement union that says this
+abbrev answer_of : Outcome → Result ComplementCounts Refusal
+answer_of (done values) = Ok (record {
+  rows = get_or values 0 0;
+  words = get_or values 1 0;
+  filled = get_or values 2 0;
+  sets = get_or values 3 0;
+  set_words = get_or values 4 0;
+})
+answer_of (refused number table) = Err (record { question = question_of number; subject = subject_of table })
+
+answer_back : (x : Result ComplementCounts Refusal) → answer_of (complement_says x) ≡ x
+answer_back (Ok c) = refl
+answer_back (Err r) = ap₂ (λ (q : Question) (t : Subject). Err (record { question = q; subject = t })) (question_back r.question) (subject_back r.subject)
+
 -- answers of complement union that say the same are the same
-pub says_same : (x y : ComplementAnswer) → complement_says x ≡ complement_says y → x ≡ y
-says_same (complement.Done rows words filled sets list_words) (complement.Done rows' words' filled' sets' list_words') e = cc
-says_same (complement.Done rows words filled sets list_words) (complement.Refused number' table') e = cc
-says_same (complement.Refused number table) (complement.Done rows' words' filled' sets' list_words') e = cc
-says_same (complement.Refused number table) (complement.Refused number' table') e = cc
+pub says_same : (x y : Result ComplementCounts Refusal) → complement_says x ≡ complement_says y → x ≡ y
+says_same x y e = sym (answer_back x) ∙ ap answer_of e ∙ answer_back y
 
 -- ---- demand 1, over the promises
 

@@ -10,6 +10,7 @@ pub mod MinimumUnion
 pub mod ComplementUnion
 pub mod SetList
 pub mod Questions
+pub mod Refusal
 pub mod Answer
 pub mod Calls
 pub mod Reading

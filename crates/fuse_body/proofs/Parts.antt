@@ -7,12 +7,12 @@ use Prim.Native.Nat.{ℕ, ◌+◌, ◌≤◌}
 use native.Mathlib.Omega.{arith}
 use lib.ListN.{length, take, drop, length-append}
 use lib.Seq.{take_at}
-use Rattle.definitions.specs.declared.OuterAnswer.{OuterAnswer}
-use Rattle.definitions.specs.declared.OuterAnswer.TheVariants as outer
-use Rattle.definitions.specs.declared.MinimumAnswer.{MinimumAnswer}
-use Rattle.definitions.specs.declared.MinimumAnswer.TheVariants as minimum
-use Rattle.definitions.specs.declared.ComplementAnswer.{ComplementAnswer}
-use Rattle.definitions.specs.declared.ComplementAnswer.TheVariants.{Done, Refused}
+use Rattle.std.specs.Prelude.{Result, Ok, Err}
+use Rattle.definitions.specs.declared.answers.OuterCounts.{OuterCounts}
+use Rattle.definitions.specs.declared.answers.MinimumCounts.{MinimumCounts}
+use Rattle.definitions.specs.declared.answers.ComplementCounts.{ComplementCounts}
+use Rattle.definitions.specs.declared.refusal.Refusal.{Refusal}
+use Rattle.definitions.specs.Refusal.{question_number, table_number}
 use Rattle.definitions.specs.declared.Output.{Output}
 use Rattle.definitions.specs.declared.Output.TheVariants.{Listing, Pages}
 use Rattle.definitions.specs.Limits.{max_union_rows, max_stored_rows}
@@ -87,12 +87,13 @@ module _ (a b : List ℕ) where
     pub within : HasRows table rows
     pub text : union_lines table rows cells ≡ union_text a b
 
-  pub union_words : (found table : List ℕ) {answer : OuterAnswer} {rows words cells : ℕ}
-      → OuterPromise a b found (outer_says answer) table
-      → answer ≡ outer.Done rows words cells → UnionWords table rows cells
+  pub union_words : (found table : List ℕ) {answer : Result OuterCounts Refusal} {counts : OuterCounts}
+      → OuterPromise a b found (outer_says answer) table → answer ≡ Ok counts → UnionWords table counts.rows counts.filled
   unfolding outer_image union_text
-  union_words found table {rows = rows} {words} {cells} call is =
-      let values : List ℕ = rows ∷ words ∷ cells ∷ [] in
+  union_words found table {counts = counts} call is =
+      let rows = counts.rows in
+      let cells = counts.filled in
+      let values : List ℕ = rows ∷ counts.words ∷ cells ∷ [] in
       let said : done values ≡ _ = sym (ap outer_says is) in
       let e : done values ≡ outer_outcome a b (length found) = said ∙ call.answers in
       let d = (outer_done a b (length found) values).0 (sym e) in
@@ -116,13 +117,16 @@ module _ (a b : List ℕ) where
     pub within : HasRows table rows
     pub text : minimum_title rows cells pairs ++ table_lines table rows ≡ minimum_text a b
 
-  pub minimum_words_lem : (found table : List ℕ) {answer : MinimumAnswer} {rows words cells pairs : ℕ}
-      → MinimumPromise a b found (minimum_says answer) table
-      → answer ≡ minimum.Done rows words cells pairs → MinimumWords table rows cells pairs
+  pub minimum_words_lem : (found table : List ℕ) {answer : Result MinimumCounts Refusal} {counts : MinimumCounts}
+      → MinimumPromise a b found (minimum_says answer) table → answer ≡ Ok counts
+      → MinimumWords table counts.rows counts.filled counts.pairs
   unfolding minimum_image minimum_text
-  minimum_words_lem found table {rows = rows} {words} {cells} {pairs} call is =
+  minimum_words_lem found table {counts = counts} call is =
+      let rows = counts.rows in
+      let cells = counts.filled in
+      let pairs = counts.pairs in
       let M = minimum_rows T in
-      let values : List ℕ = rows ∷ words ∷ cells ∷ pairs ∷ [] in
+      let values : List ℕ = rows ∷ counts.words ∷ cells ∷ pairs ∷ [] in
       let said : done values ≡ _ = sym (ap minimum_says is) in
       let e : done values ≡ minimum_outcome a b (length found) = said ∙ call.answers in
       let d = (minimum_done a b (length found) values).0 (sym e) in
@@ -166,12 +170,12 @@ module _ (a b : List ℕ) where
       let is = (minimum_done a b lent_table _).1 (record { accepted = accepted; table_room = omega (arith, room); carries = refl }) in
       let z : ◌≡◌ {A = ℕ} 0 1 = cc in omega arith
 
-  pub not_refused_outer : {A : Type 0} {table_after : List ℕ} {answer : OuterAnswer} {number table : ℕ} → IsDone a b → (found : List ℕ)
-      → length found ≡ lent_table → OuterPromise a b found (outer_says answer) table_after → answer ≡ outer.Refused number table → A
+  pub not_refused_outer : {A : Type 0} {table_after : List ℕ} {answer : Result OuterCounts Refusal} {r : Refusal} → IsDone a b → (found : List ℕ)
+      → length found ≡ lent_table → OuterPromise a b found (outer_says answer) table_after → answer ≡ Err r → A
   not_refused_outer i found h call is = absurd (done_outer i _ _ (sym (ap outer_says is) ∙ call.answers ∙ ap (outer_outcome a b) h))
 
-  pub not_refused_minimum : {A : Type 0} {table_after : List ℕ} {answer : MinimumAnswer} {number table : ℕ} → IsDone a b → (found : List ℕ)
-      → length found ≡ lent_table → MinimumPromise a b found (minimum_says answer) table_after → answer ≡ minimum.Refused number table → A
+  pub not_refused_minimum : {A : Type 0} {table_after : List ℕ} {answer : Result MinimumCounts Refusal} {r : Refusal} → IsDone a b → (found : List ℕ)
+      → length found ≡ lent_table → MinimumPromise a b found (minimum_says answer) table_after → answer ≡ Err r → A
   not_refused_minimum i found h call is = absurd (done_minimum i _ _ (sym (ap minimum_says is) ∙ call.answers ∙ ap (minimum_outcome a b) h))
 
   -- ---- the sets and the fused table
@@ -217,17 +221,18 @@ module _ (a b : List ℕ) where
 
 -- ---- what complement union answered
 
-module _ {a b fused sets : List ℕ} {answer : ComplementAnswer} (w : FusedAnswer a b answer fused sets) where
+module _ {a b fused sets : List ℕ} {answer : Result ComplementCounts Refusal} (w : FusedAnswer a b answer fused sets) where
   outcome : complement_says answer ≡ complement_outcome a b lent_table lent_sets
   outcome = w.promise.answers ∙ ap₂ (complement_outcome a b) w.table_words w.set_words
 
-  pub refused_text : (output : Output) {number table : ℕ} → answer ≡ Refused number table → refused_line number table ≡ unions_output output a b
+  pub refused_text : (output : Output) {r : Refusal} → answer ≡ Err r
+      → refused_line (question_number r.question) (table_number r.subject) ≡ unions_output output a b
   unfolding unions_output
   refused_text output is = ap (λ (o : Outcome). unless_refused o (output_text output a b)) (sym (ap complement_says is) ∙ outcome)
 
-  module _ {rows words cells count words_of_sets : ℕ} (is : answer ≡ Done rows words cells count words_of_sets) where
+  module _ {counts : ComplementCounts} (is : answer ≡ Ok counts) where
     abbrev values : List ℕ
-    values = rows ∷ words ∷ cells ∷ count ∷ words_of_sets ∷ []
+    values = counts.rows ∷ counts.words ∷ counts.filled ∷ counts.sets ∷ counts.set_words ∷ []
 
     said : done values ≡ complement_outcome a b lent_table lent_sets
     said = sym (ap complement_says is) ∙ outcome
@@ -247,10 +252,13 @@ module _ {a b fused sets : List ℕ} {answer : ComplementAnswer} (w : FusedAnswe
     pub listed_text : {output : Output} → output ≡ Listing → listing a b ≡ unions_output output a b
     listed_text {output} e = ap (λ (o : Output). output_text o a b) (sym e) ∙ output_text_lem output
 
-    pub listed_words : FusedWords a b fused rows cells sets count
+    pub listed_words : FusedWords a b fused sets counts
     unfolding fused_image fused_text
     listed_words =
         let F = fused_rows (columns a b) (T a b) in
+        let rows = counts.rows in
+        let cells = counts.filled in
+        let count = counts.sets in
         let d = call_done in
         let carries = d.carries in
         let n : rows ≡ length F = cc in
@@ -275,20 +283,20 @@ module _ {a b fused sets : List ℕ} {answer : ComplementAnswer} (w : FusedAnswe
 
     -- ---- the pages
 
-    table_size : length (fused_image a b) ≡ words
+    table_size : length (fused_image a b) ≡ counts.words
     unfolding fused_image
     table_size = let carries = call_done.carries in cc
 
-    pub table_within : words ≤ length fused
+    pub table_within : counts.words ≤ length fused
     table_within = omega (arith, table_size, simp length-append at (ap length table_left))
 
     -- the words that the answer counts are the fused table
-    fused_image_lem : take words fused ≡ fused_image a b
-    fused_image_lem = ap (take words) table_left ∙ take_at (fused_image a b) _ words table_size
+    fused_image_lem : take counts.words fused ≡ fused_image a b
+    fused_image_lem = ap (take counts.words) table_left ∙ take_at (fused_image a b) _ counts.words table_size
 
     -- it is an image whose pages can be shown
-    pub table_passes : Passed max_stored_rows (take words fused)
+    pub table_passes : Passed max_stored_rows (take counts.words fused)
     table_passes = rw fused_image_lem (fused_passes a b lent_table lent_sets values call_done)
 
-    pub paged_text : {output : Output} → output ≡ Pages → all_pages (take words fused) ≡ unions_output output a b
+    pub paged_text : {output : Output} → output ≡ Pages → all_pages (take counts.words fused) ≡ unions_output output a b
     paged_text {output} e = ap all_pages fused_image_lem ∙ ap (λ (o : Output). output_text o a b) (sym e) ∙ output_text_lem output

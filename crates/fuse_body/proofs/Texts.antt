@@ -10,8 +10,7 @@ use lib.Seq.{take_all}
 use borrow.Author.Tests.{eq-eqb, ne_eqb, le-leb, lt-leb, leb-true, leb-false}
 use Rattle.definitions.specs.declared.Output.{Output}
 use Rattle.definitions.specs.declared.Output.TheVariants.{Listing}
-use Rattle.definitions.specs.declared.TextAnswer.{TextAnswer}
-use Rattle.definitions.specs.declared.TextAnswer.TheVariants.{Done, TooShort}
+use Rattle.std.specs.Prelude.{Option, Some, None}
 use Rattle.definitions.specs.Text.{ascii}
 use Rattle.definitions.specs.Listing.{ragged_line}
 use Rattle.definitions.specs.Program.{max_bytes, words_of, max_text}
@@ -62,34 +61,34 @@ read_whole output board plant m n e f = ap₂ (read_output output) (take_least b
 -- ---- the promise
 
 module _ (output : Output) (board plant found : List ℕ) where
-  pub too_short : length found < max_text → OutputPromise output board plant found TooShort found
+  pub too_short : length found < max_text → OutputPromise output board plant found None found
   too_short h = record { answers = rw (lt-leb max_text (length found) h); writes = rw (lt-leb max_text (length found) h) }
 
   pub written_whole : (text after : List ℕ) (end : ℕ) → max_text ≤ length found → text ≡ whole_output output board plant
-      → Written found 0 text after end → OutputPromise output board plant found (Done end) after
+      → Written found 0 text after end → OutputPromise output board plant found (Some end) after
   written_whole text after end h e w =
       let size : end ≡ length (whole_output output board plant) = w.ends ∙ zero-add (length text) ∙ ap length e in
       record {
-        answers = rw (le-leb max_text (length found) h) (ap Done size);
+        answers = rw (le-leb max_text (length found) h) (ap Some size);
         writes = rw (le-leb max_text (length found) h) (w.holds ∙ ap₂ (λ (t : List ℕ) (n : ℕ). t ++ drop n found) e size);
       }
 
 -- a done answer's bytes are in the buffer
-pub done_within : (output : Output) (board plant found : List ℕ) (answer : TextAnswer) (n : ℕ) (after : List ℕ) → answer ≡ Done n
+pub done_within : (output : Output) (board plant found : List ℕ) (answer : Option ℕ) (n : ℕ) (after : List ℕ) → answer ≡ Some n
     → OutputPromise output board plant found answer after → length after ≡ length found → n ≤ length after
 done_within output board plant found answer n after is p h =
     bool_cases (leb max_text (length found))
     (λ e.
     let room = leb-true max_text (length found) e in
-    let same : answer ≡ Done (length (whole_output output board plant)) = p.answers ∙ rw e refl in
+    let same : answer ≡ Some (length (whole_output output board plant)) = p.answers ∙ rw e refl in
     let size : n ≡ length (whole_output output board plant) = cc in
     omega (arith, output_bound output board plant))
     (λ e.
-    let same : answer ≡ TooShort = p.answers ∙ rw e refl in
+    let same : answer ≡ None = p.answers ∙ rw e refl in
     absurd (let z : ◌≡◌ {A = ℕ} 0 1 = cc in omega arith))
 
 -- the output of the listing is the text of `fuse`
-module _ {board plant found after : List ℕ} {answer : TextAnswer} where
+module _ {board plant found after : List ℕ} {answer : Option ℕ} where
   pub listing_promised : OutputPromise Listing board plant found answer after → TextPromise board plant found answer after
   listing_promised p =
       let same = listing_output board plant in

@@ -2,7 +2,7 @@
 ghost use Rattle.std.specs.Prelude.{◌≡◌, take, ◌≤◌, length};
 
 use crate::answer::{BYTES, MAX_TEXT, output_text};
-use definitions::{Output, TextAnswer};
+use definitions::Output;
 use std::fs::File;
 use std::io;
 use std::io::Read;
@@ -21,6 +21,8 @@ fn read_bytes(rt: &impl Files, path: &[u8], bytes: &mut [u8]) -> usize
         return 0;
     };
     let mut done = 0;
+
+    // Not an iterator or `read_to_end`, which says little after an `Err`: here what came before it counts.
     while done < bytes.len() {
         match file.read(&mut bytes[done..]) {
             Ok(0) | Err(_) => break,
@@ -38,10 +40,10 @@ fn write_text(
     plant: &[u8],
     out: &mut [u8],
 ) -> io::Result<()> {
-    match output_text(output, board, plant, out) {
-        TextAnswer::TooShort => Ok(()),
-        TextAnswer::Done { length } => rt.write_all(&out[..length]),
-    }
+    let Some(length) = output_text(output, board, plant, out) else {
+        return Ok(());
+    };
+    rt.write_all(&out[..length])
 }
 
 // Reads the files at two paths, board first, and writes the whole output.
@@ -59,7 +61,7 @@ pub fn run_output(
     write_text(rt, output, &first[..m], &second[..n], &mut out)
 }
 
-// Reads the files at two paths, board first, and writes the whole listing.
+// Reads the files at two paths, board first, and writes the whole listing: the name that stood before there were pages.
 pub fn run(rt: &(impl Files + Print), board: &[u8], plant: &[u8]) -> io::Result<()> {
     run_output(rt, Output::Listing, board, plant)
 }

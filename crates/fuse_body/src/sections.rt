@@ -1,72 +1,54 @@
 // The parts of the listing, each from the answer and the words of a call.
-ghost use Rattle.std.specs.Prelude.{◌≡◌, length};
-ghost use Rattle.definitions.specs.Program.{lent_table, union_text, minimum_text, listing};
-ghost use Rattle.lists.specs.Written.{Fits, Written};
+ghost use Rattle.definitions.specs.Program.{union_text, minimum_text, listing};
 ghost use Rattle.fuse_body.specs.Parts.{Section, FusedWords};
+ghost use Rattle.text.specs.Writer.{HasRoom, Wrote};
 
-use definitions::{MinimumAnswer, OuterAnswer};
-use listing::{fused_lines, minimum_lines, sets_lines, union_lines};
+use crate::answer::TABLE;
+use definitions::ComplementCounts;
+use listing::{sets_lines, table_lines, union_lines};
+use text::Writer;
 
-// The columns and T. Where complement union isn't refused, outer union isn't: the first arm is never taken.
-fn put_union(a: &[u32], b: &[u32], table: &mut [u32], out: &mut [u8], at: usize) -> usize
-    requires { Section a.now b.now table.old out.old at (union_text a.now b.now) }
-    ensures { Written out.old at
-        (union_text a.now b.now) out.new result }
+// The columns and T. Where complement union isn't refused, outer union isn't.
+fn put_union(a: &[u32], b: &[u32], table: &mut [u32], out: &mut Writer)
+    requires { Section a.now b.now table.old out.old (union_text a.now b.now) }
+    ensures { Wrote out.old (union_text a.now b.now) out.new }
 {
-    let answer = unions::outer_union(a, b, table);
-    match answer {
-        OuterAnswer::Refused {
-            number: _,
-            table: _,
-        } => at,
-        OuterAnswer::Done {
-            rows,
-            words: _,
-            filled,
-        } => union_lines(table, rows, filled, out, at),
-    }
+    let Ok(counts) = unions::outer_union(a, b, table) else {
+        return;
+    };
+    union_lines(table, counts.rows, counts.filled, out);
 }
 
-// The minimum union. Where complement union isn't refused, minimum union isn't: the first arm is never taken.
-fn put_minimum(a: &[u32], b: &[u32], table: &mut [u32], out: &mut [u8], at: usize) -> usize
-    requires { Section a.now b.now table.old out.old at (minimum_text a.now b.now) }
-    ensures { Written out.old at
-        (minimum_text a.now b.now) out.new result }
+// The minimum union. Where complement union isn't refused, minimum union isn't. One function for this and `put_union`, over two calls with
+// two kinds of counts, would be no plainer.
+fn put_minimum(a: &[u32], b: &[u32], table: &mut [u32], out: &mut Writer)
+    requires { Section a.now b.now table.old out.old (minimum_text a.now b.now) }
+    ensures { Wrote out.old (minimum_text a.now b.now) out.new }
 {
-    let answer = unions::minimum_union(a, b, table);
-    match answer {
-        MinimumAnswer::Refused {
-            number: _,
-            table: _,
-        } => at,
-        MinimumAnswer::Done {
-            rows,
-            words: _,
-            filled,
-            pairs,
-        } => minimum_lines(table, rows, filled, pairs, out, at),
-    }
+    let Ok(counts) = unions::minimum_union(a, b, table) else {
+        return;
+    };
+    let numbers = [counts.rows, counts.filled, counts.pairs];
+    table_lines(b"minimum", &numbers, table, counts.rows, out);
 }
 
-// The whole listing, where complement union left these words.
+// The whole listing, where complement union answered these counts and left these words.
 pub(crate) fn put_listing(
     a: &[u32],
     b: &[u32],
     fused: &[u32],
-    rows: usize,
-    filled: usize,
     sets: &[u32],
-    count: usize,
-    table: &mut [u32],
-    out: &mut [u8],
-) -> usize
-    requires fused_words { FusedWords a.now b.now fused.now rows filled sets.now count }
-    requires table_len { (length table.old ≡ lent_table) × Fits out.old 0 (listing a.now b.now) }
-    ensures { Written out.old 0
-        (listing a.now b.now) out.new result }
+    counts: ComplementCounts,
+    out: &mut Writer,
+)
+    requires fused_words { FusedWords a.now b.now fused.now sets.now counts }
+    requires room { HasRoom out.old (listing a.now b.now) }
+    ensures { Wrote out.old (listing a.now b.now) out.new }
 {
-    let mut end = put_union(a, b, table, out, 0);
-    end = put_minimum(a, b, table, out, end);
-    end = sets_lines(sets, count, out, end);
-    fused_lines(fused, rows, filled, out, end)
+    let mut table = [0u32; TABLE];
+    put_union(a, b, &mut table, out);
+    put_minimum(a, b, &mut table, out);
+    sets_lines(sets, counts.sets, out);
+    let numbers = [counts.rows, counts.filled];
+    table_lines(b"fused", &numbers, fused, counts.rows, out);
 }

@@ -5,7 +5,7 @@ use mathlib.Core.List.{List, []}
 use Prim.Native.Nat.{ℕ, ◌+◌, ◌-◌, ◌*◌, ◌^◌, ◌<◌, ◌≤◌}
 use native.Mathlib.Omega.{arith}
 use lib.Bits.{bit_and, bit_or, and_le_l}
-use lib.ListN.{length, get_or, take, drop, set as replace}
+use lib.ListN.{length, get_or, drop, set as replace}
 use lib.Seq.{get_or-set_same, get_or-set_other}
 use borrow.Author.Count.{below_more}
 use Rattle.definitions.specs.Limits.{max_union_rows}
@@ -22,7 +22,8 @@ use Rattle.bitsets.specs.Bits.{word_bits, has, both, rows_below}
 use Rattle.bitsets.proofs.Bits.{has_both, has-or, has_none, below_in}
 use Rattle.patterns.specs.Columns.{blank_of, filled_in, ColumnsOf}
 use Rattle.patterns.proofs.FilledRows.{filled-has, has_blank, blank_fits}
-use Rattle.patterns.proofs.Parts.{row_length, part_is, part_length}
+use Rattle.patterns.proofs.Parts.{row_length}
+use Rattle.rows.specs.Indices.{row_at}
 use Rattle.fusing.specs.Graph.{CountedColumns, Seen, CrossingOf, Crossing}
 use Rattle.fusing.proofs.Words.{has_lacked}
 use Rattle.fusing.proofs.Apart.{both_in, complement-filled}
@@ -183,7 +184,6 @@ PassedTo row columns counted i shared above within =
 
 -- the loop over the columns: i are passed, and the two words that are inverted at the end fit a word
 pub record PassedColumns (row columns counted : List ℕ) (shared above within i : ℕ) : Type 0 where
-  pub in_row : i ≤ length row
   pub above_fits : above < 2 ^ word_bits
   pub within_fits : within < 2 ^ word_bits
   pub passed : PassedTo row columns counted i shared above within
@@ -237,28 +237,20 @@ rows_seen words n w columns counted few fits o m =
 abbrev pub CrossingTo : List ℕ → List (List ℕ) → List ℕ → ℕ → Type 0
 CrossingTo words rows neighbours j = (i : ℕ) → i < j → CrossingOf words rows (get_or rows i []) (get_or neighbours i 0)
 
--- the loop over the rows: the row j begins at at, the list keeps its length, and the words of the rows before are written
-pub record CrossedRows (words : List ℕ) (n : ℕ) (cells found neighbours : List ℕ) (j at : ℕ) : Type 0 where
-  pub few : j ≤ n
-  pub here : at ≡ j * length words
-  pub size : length neighbours ≡ length found
-  pub crossed : CrossingTo words (rows_in (length words) n cells) neighbours j
-
-module _ (words : List ℕ) (n j at : ℕ) (w columns counted neighbours : List ℕ) (set : ℕ) where
+module _ (words : List ℕ) (n j : ℕ) (w columns counted neighbours row : List ℕ) (set : ℕ) where
   abbrev c : ℕ
   c = length words
 
   abbrev rows : List (List ℕ)
   rows = rows_in c n w
 
-  -- n rows stand in w, and the row j, from at on, is the next
-  pub crossing_turn : Seen words rows columns counted → n * c ≤ length w → j < n → at ≡ j * c → j < length neighbours
-      → Crossing (take (at + c - at) (drop at w)) columns counted set → CrossingTo words rows neighbours j
-      → CrossingTo words rows (replace neighbours j set) (j + 1)
-  crossing_turn seen fits more here room f inv =
+  -- n rows stand in w, and the row j is the next
+  pub crossing_turn : Seen words rows columns counted → n * c ≤ length w → j < n → j < length neighbours → row ≡ row_at c w j
+      → Crossing row columns counted set → CrossingTo words rows neighbours j → CrossingTo words rows (replace neighbours j set) (j + 1)
+  crossing_turn seen fits more room e f inv =
       let own : CrossingOf words rows (get_or rows j []) set =
-      subst (λ (r : List ℕ). CrossingOf words rows r set) (part_is c n j w fits more at here ∙ sym (rows_at_lem c n j w more))
-      (f words rows (sym (part_length c n j w fits more at here)) seen) in
+      subst (λ (r : List ℕ). CrossingOf words rows r set) (e ∙ sym (rows_at_lem c n j w more))
+      (f words rows (sym (ap length e ∙ row_length c n j w fits more)) seen) in
       below_more (λ (i : ℕ). CrossingOf words rows (get_or rows i []) (get_or (replace neighbours j set) i 0)) j
       (λ i h. subst (CrossingOf words rows (get_or rows i [])) (sym (get_or-set_other neighbours j i set 0 (λ q. omega arith))) (inv i h))
       (subst (CrossingOf words rows (get_or rows j [])) (sym (get_or-set_same neighbours j set 0 room)) own)

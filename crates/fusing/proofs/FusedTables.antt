@@ -2,7 +2,8 @@
 use mathlib.Core.Path.{◌≡◌, refl, sym, ◌∙◌, ap, ap₂, subst}
 use mathlib.Core.Bool.{Bool}
 use mathlib.Core.List.{List, [], ◌∷◌, ◌++◌, map}
-use Prim.Native.Nat.{ℕ, suc, ◌*◌, ◌≤◌, min}
+use Prim.Native.Nat.{ℕ, ◌*◌, ◌≤◌, ◌<◌}
+use Rattle.std.proofs.Common.{Option, Some, None}
 use native.Mathlib.Omega.{arith}
 use lib.ListN.{length, take, length-map}
 use lib.Seq.{take_at}
@@ -14,7 +15,7 @@ use Rattle.definitions.specs.OuterUnion.{compare_row}
 use Rattle.definitions.specs.Ascending.{ascending}
 use Rattle.definitions.specs.ComplementUnion.{same_row, joined, maximal_sets, union_sets, fused_rows}
 use Rattle.definitions.specs.SetList.{bits, fused_position}
-use Rattle.cliques.specs.Graph.{adjacent, Graph, AllSets}
+use Rattle.cliques.specs.Graph.{adjacent, Graph, FoundSets}
 use Rattle.rows.specs.Indices.{rows_at, Ordered}
 use Rattle.rows.proofs.Indices.{below_fit}
 use Rattle.fusing.specs.Fused.{SetsOf, joined_rows, FusedOf}
@@ -27,22 +28,16 @@ use Rattle.fusing.proofs.Neighbours.{graph_sets}
 pub graph_for : (words : List ℕ) (c n : ℕ) (cells neighbours : List ℕ) → GraphOf words (rows_in c n cells) neighbours → Graph neighbours n
 graph_for words c n cells neighbours g = subst (Graph neighbours) (rows_length c n cells) g.graph
 
-module _ (words : List ℕ) (c n r : ℕ) (cells neighbours list : List ℕ) (g : GraphOf words (rows_in c n cells) neighbours) (found : AllSets neighbours n list r) where
+module _ (words : List ℕ) (c n : ℕ) (cells neighbours list : List ℕ) (g : GraphOf words (rows_in c n cells) neighbours) where
   abbrev T : List (List ℕ)
   T = rows_in c n cells
 
   sets_are : maximal_sets (adjacent neighbours) n ≡ union_sets words T
   sets_are = ap (maximal_sets (adjacent neighbours)) (sym (rows_length c n cells)) ∙ graph_sets words T neighbours g
 
-  sets_counted : r ≡ min (suc max_sets) (length (union_sets words T))
-  sets_counted = found.counts ∙ ap (λ (l : List (List Bool)). min (suc max_sets) (length l)) sets_are
-
-  pub sets_of : SetsOf words T list r
-  sets_of = record {
-    many = λ h. omega (arith, sets_counted);
-    few = λ h. omega (arith, sets_counted);
-    listed = λ h. found.lists h ∙ ap (map bits) sets_are;
-  }
+  pub sets_of : (r : Option ℕ) → FoundSets neighbours n list r → SetsOf words T list r
+  sets_of None found = subst (λ (l : List (List Bool)). max_sets < length l) sets_are found
+  sets_of (Some r) found = (found.0, found.1 ∙ ap length sets_are, found.2 ∙ ap (map bits) sets_are)
 
 -- ---- the fused table: m indices name the distinct joined rows in ascending order
 

@@ -3,18 +3,20 @@ use mathlib.Core.Path.{◌≡◌, refl, sym, ◌∙◌, ap, ap₂, subst}
 use mathlib.Core.Bool.{Bool, true, false, ◌&&◌, ◌||◌}
 use mathlib.Core.Logic.{◌⊎◌, inl, inr, ⊎_elim}
 use mathlib.Core.List.{List}
-use Prim.Native.Nat.{ℕ, ◌-◌, ◌*◌, ◌%◌, ◌^◌, ◌<◌}
+use Prim.Native.Nat.{ℕ, ◌*◌, ◌%◌, ◌^◌, ◌<◌}
 use native.Mathlib.Omega.{arith}
-use lib.Bits.{bit_and, bit_or, or_zero_l}
+use lib.Bits.{bit_or, or_zero_l}
 use lib.Dec.{eqb}
-use lib.ListN.{length, get_or, set, replicate, get_or-replicate}
+use lib.ListN.{length, get_or, set, length-set, replicate, get_or-replicate}
 use lib.Seq.{get_or-set_same, get_or-set_other}
 use borrow.Author.Tests.{eqb-true, eqb-false, eq-eqb, ne_eqb}
 use Rattle.definitions.proofs.Bools.{bool_cases, clash, not_so, or_cases, or_l, or_r, and_l, and_r}
 use Rattle.bitsets.specs.Bits.{word_bits, has, with_row, Inside, without_lowest}
 use Rattle.bitsets.proofs.Bits.{bit_at, Lowest, has_none, has_with, rest_in, rest_of}
+use Rattle.std.specs.Prelude.{Some, None}
+use Rattle.fusing.specs.Members.{Next}
 use Rattle.fusing.specs.Groups.{bucket_count, LeaderOf, Groups}
-use Rattle.fusing.proofs.Rests.{passed, passed_in, passed_none, passed_all, among_more, passed_next, passed_else, passed_more, passed_other, passed_old, passed_cases}
+use Rattle.fusing.proofs.Rests.{lowest_of, passed, passed_in, passed_none, passed_all, among_more, passed_next, passed_else, passed_more, passed_other, passed_old, passed_cases}
 
 -- ---- a leader is sought
 
@@ -27,23 +29,19 @@ module _ (cell : ℕ → ℕ) (x rows : ℕ) where
   pub seek_start : Seeking cell x rows rows
   seek_start = record { among = λ k h. h; left = λ k h e. h }
 
-  pub seek_turn : (rest k : ℕ) → Lowest rest k → (cell k ≡ x → ⊥) → Seeking cell x rows rest → Seeking cell x rows (bit_and rest (rest - 1))
-  unfolding without_lowest
-  seek_turn rest k low d inv = record {
-    among = λ i h. inv.among i (rest_in rest i h);
-    left = λ i h e. rest_of rest k i low (inv.left i h e) (λ q. d (ap cell (sym q) ∙ e));
-  }
+  pub seek_next : {rest k left : ℕ} → Next rest k left → Seeking cell x rows rest → has rows k ≡ true
+  seek_next {rest} {k} next inv = inv.among k (lowest_of next).there
 
-  pub seek_found : (j rest k : ℕ) → has rows j ≡ false → Lowest rest k → cell k ≡ x → Seeking cell x rows rest → LeaderOf cell x rows j k
-  seek_found j rest k out low e inv =
-      let there : has rows k ≡ true = inv.among k low.there in
-      record { found = λ d. (there, e); none = λ q. absurd (clash there (ap (has rows) q ∙ out)) }
+  pub seek_turn : {rest k left : ℕ} → Next rest k left → (cell k ≡ x → ⊥) → Seeking cell x rows rest → Seeking cell x rows left
+  seek_turn {rest} {k} next d inv =
+      subst (Seeking cell x rows) (sym next.rest)
+      (record {
+        among = λ i h. inv.among i (rest_in rest i h);
+        left = λ i h e. rest_of rest k i (lowest_of next) (inv.left i h e) (λ q. d (ap cell (sym q) ∙ e));
+      })
 
-  pub seek_none : (j rest : ℕ) → rest ≡ 0 → Seeking cell x rows rest → LeaderOf cell x rows j j
-  seek_none j rest e inv = record {
-    found = λ d. absurd (d refl);
-    none = λ q k h f. clash (inv.left k h f) (ap (λ (w : ℕ). has w k) e ∙ has_none k);
-  }
+  pub seek_none : {rest : ℕ} → rest ≡ 0 → Seeking cell x rows rest → LeaderOf cell x rows None
+  seek_none e inv = λ k h f. clash (inv.left k h f) (ap (λ (w : ℕ). has w k) e ∙ has_none k)
 
 -- ---- bit j joined to a word of a list
 
@@ -63,19 +61,12 @@ leads cell buckets k = has (get_or buckets (cell k % bucket_count) 0) k
 
 -- the rows that are not in the rest are grouped
 pub record Grouping (cell : ℕ → ℕ) (filled rest : ℕ) (buckets leaders equal : List ℕ) : Type 0 where
+  pub size : length buckets ≡ bucket_count
   pub among : (k : ℕ) → has rest k ≡ true → has filled k ≡ true
   pub held : (d k : ℕ) → d < bucket_count → has (get_or buckets d 0) k ≡ true → passed filled rest k ≡ true
   pub one : (k i : ℕ) → leads cell buckets k ≡ true → leads cell buckets i ≡ true → cell k ≡ cell i → k ≡ i
   pub group : (k i : ℕ) → leads cell buckets k ≡ true → has (get_or equal k 0) i ≡ (passed filled rest i && eqb (cell k) (cell i))
   pub led : (i : ℕ) → passed filled rest i ≡ true → (leads cell buckets (get_or leaders i 0) ≡ true) × (cell (get_or leaders i 0) ≡ cell i)
-
--- the loop over the rows: the rest fits a word, the lists keep their lengths, and the rows that are passed are grouped
-pub record Grouped (cell : ℕ → ℕ) (filled : ℕ) (found_leaders found_equal leaders equal buckets : List ℕ) (rest : ℕ) : Type 0 where
-  pub fits : rest < 2 ^ word_bits
-  pub leader_words : length leaders ≡ length found_leaders
-  pub equal_words : length equal ≡ length found_equal
-  pub bucket_words : length buckets ≡ bucket_count
-  pub grouping : Grouping cell filled rest buckets leaders equal
 
 digit_small : (x : ℕ) → x % bucket_count < bucket_count
 digit_small x = omega arith
@@ -84,6 +75,7 @@ pub group_start : (cell : ℕ → ℕ) (filled : ℕ) (leaders equal : List ℕ)
 group_start cell filled leaders equal =
     let none : (d k : ℕ) → d < bucket_count → has (get_or (replicate bucket_count 0) d 0) k ≡ false = λ d k h. ap (λ (x : ℕ). has x k) (get_or-replicate bucket_count d 0 0 h) ∙ has_none k in
     record {
+      size = refl;
       among = λ k h. h;
       held = λ d k h m. absurd (clash m (none d k h));
       one = λ k i m q e. absurd (clash m (none (cell k % bucket_count) k (digit_small (cell k))));
@@ -118,21 +110,18 @@ group_with was now false same e f = last (was && same) ∙ ap (λ (b : Bool). b 
     last false = refl
 
 -- row j is next; a leader of before is sought for it
-module _ {cell : ℕ → ℕ} {filled rest : ℕ} {buckets leaders equal : List ℕ} (inv : Grouping cell filled rest buckets leaders equal) {j : ℕ} (low : Lowest rest j) where
+module _ {cell : ℕ → ℕ} {filled rest : ℕ} {buckets leaders equal : List ℕ} (inv : Grouping cell filled rest buckets leaders equal) {j left : ℕ} (next : Next rest j left) where
   abbrev digit : ℕ
   digit = cell j % bucket_count
+
+  low : Lowest rest j
+  low = lowest_of next
 
   pub bucket_filled : (d k : ℕ) → d < bucket_count → has (get_or buckets d 0) k ≡ true → has filled k ≡ true
   bucket_filled d k h m = passed_in filled rest k (inv.held d k h m)
 
-  pub digit_filled : (k : ℕ) → has (get_or buckets digit 0) k ≡ true → has filled k ≡ true
-  digit_filled k m = bucket_filled digit k (digit_small (cell j)) m
-
   pub next_filled : has filled j ≡ true
   next_filled = inv.among j low.there
-
-  pub next_outside : (d : ℕ) → d < bucket_count → has (get_or buckets d 0) j ≡ false
-  next_outside d h = not_so (has (get_or buckets d 0) j) (λ m. passed_other filled rest j inv.among low j (inv.held d j h m) refl)
 
   leader_passed : (k : ℕ) → leads cell buckets k ≡ true → passed filled rest k ≡ true
   leader_passed k m = inv.held (cell k % bucket_count) k (digit_small (cell k)) m
@@ -156,7 +145,10 @@ module _ {cell : ℕ → ℕ} {filled rest : ℕ} {buckets leaders equal : List 
         (subst (λ (k : ℕ). leads cell buckets' k ≡ true) w m, ap cell (sym w) ∙ e ∙ ap cell (sym q)))
 
     -- no group has its cell
-    module _ (r : ℕ) (leader : LeaderOf cell (cell j) (get_or buckets digit 0) j r) (here : r ≡ j) (room : j < length equal) (size : length buckets ≡ bucket_count) where
+    module _ (none : LeaderOf cell (cell j) (get_or buckets digit 0) None) (room : j < length equal) where
+      size : length buckets ≡ bucket_count
+      size = inv.size
+
       abbrev buckets' : List ℕ
       buckets' = set buckets digit (bit_or (get_or buckets digit 0) ((1 * 2 ^ j) % 2 ^ word_bits))
 
@@ -167,7 +159,7 @@ module _ {cell : ℕ → ℕ} {filled rest : ℕ} {buckets leaders equal : List 
       other_cell k p e =
           let o = inv.led k p in
           let same : cell (get_or leaders k 0) ≡ cell j = o.1 ∙ e in
-          leader.none here (get_or leaders k 0) (ap (λ (x : ℕ). has (get_or buckets (x % bucket_count) 0) (get_or leaders k 0)) (sym same) ∙ o.0) same
+          none (get_or leaders k 0) (ap (λ (x : ℕ). has (get_or buckets (x % bucket_count) 0) (get_or leaders k 0)) (sym same) ∙ o.0) same
 
       bucket_here : (k : ℕ) → has (get_or buckets' digit 0) k ≡ (has (get_or buckets digit 0) k || eqb k j)
       bucket_here k =
@@ -223,33 +215,34 @@ module _ {cell : ℕ → ℕ} {filled rest : ℕ} {buckets leaders equal : List 
           (sym (passed_else filled rest j inv.among low i (eqb-false i j e)) ∙ and_l (passed filled (without_lowest rest) i) (eqb (cell j) (cell i)) h)
           (sym (eqb-true (cell j) (cell i) (and_r (passed filled (without_lowest rest) i) (eqb (cell j) (cell i)) h))))))
 
-      pub group_new : Grouping cell filled (bit_and rest (rest - 1)) buckets' (set leaders j r) equal'
-      unfolding without_lowest
-      group_new = record {
-        among = among_more filled rest j inv.among low;
-        held = λ d k h m. ⊎_elim (λ o. bucket_more d k h o) (λ q. ap (passed filled (without_lowest rest)) q ∙ passed_next filled rest j inv.among low) (bucket_cases d k m);
-        one = λ k i m n e.
-            ⊎_elim
-            (λ o. ⊎_elim (λ p. inv.one k i o p e) (λ q. absurd (other_cell k (leader_passed k o) (e ∙ ap cell q))) (bucket_cases (cell i % bucket_count) i n))
-            (λ q. ⊎_elim (λ p. absurd (other_cell i (leader_passed i p) (sym e ∙ ap cell q))) (λ t. q ∙ sym t) (bucket_cases (cell i % bucket_count) i n))
-            (bucket_cases (cell k % bucket_count) k m);
-        group = λ k i m.
-            ⊎_elim (λ o. group_old k i o)
-            (λ q. subst (λ (x : ℕ). has (get_or equal' x 0) i ≡ (passed filled (without_lowest rest) i && eqb (cell x) (cell i))) (sym q) (group_own i))
-            (bucket_cases (cell k % bucket_count) k m);
-        led = led_more r buckets' (λ k m. bucket_still (cell k % bucket_count) k m) (ap (leads cell buckets') here ∙ bucket_own) (ap cell here);
-      }
+      new_group : Grouping cell filled left buckets' (set leaders j j) equal'
+      new_group =
+          subst (λ (r : ℕ). Grouping cell filled r buckets' (set leaders j j) equal') (sym next.rest) (record {
+            size = length-set buckets digit _ ∙ size;
+            among = among_more filled rest j inv.among low;
+            held = λ d k h m. ⊎_elim (λ o. bucket_more d k h o) (λ q. ap (passed filled (without_lowest rest)) q ∙ passed_next filled rest j inv.among low) (bucket_cases d k m);
+            one = λ k i m n e.
+                ⊎_elim
+                (λ o. ⊎_elim (λ p. inv.one k i o p e) (λ q. absurd (other_cell k (leader_passed k o) (e ∙ ap cell q))) (bucket_cases (cell i % bucket_count) i n))
+                (λ q. ⊎_elim (λ p. absurd (other_cell i (leader_passed i p) (sym e ∙ ap cell q))) (λ t. q ∙ sym t) (bucket_cases (cell i % bucket_count) i n))
+                (bucket_cases (cell k % bucket_count) k m);
+            group = λ k i m.
+                ⊎_elim (λ o. group_old k i o)
+                (λ q. subst (λ (x : ℕ). has (get_or equal' x 0) i ≡ (passed filled (without_lowest rest) i && eqb (cell x) (cell i))) (sym q) (group_own i))
+                (bucket_cases (cell k % bucket_count) k m);
+            led = led_more j buckets' (λ k m. bucket_still (cell k % bucket_count) k m) bucket_own refl;
+          })
 
     -- the group of r has its cell
-    module _ (r : ℕ) (leader : LeaderOf cell (cell j) (get_or buckets digit 0) j r) (d : r ≡ j → ⊥) (room : r < length equal) where
+    module _ (r : ℕ) (found : LeaderOf cell (cell j) (get_or buckets digit 0) (Some r)) (room : r < length equal) where
       abbrev grown : List ℕ
       grown = set equal r (bit_or (get_or equal r 0) ((1 * 2 ^ j) % 2 ^ word_bits))
 
       same : cell r ≡ cell j
-      same = (leader.found d).1
+      same = found.1
 
       leads_it : leads cell buckets r ≡ true
-      leads_it = ap (λ (x : ℕ). has (get_or buckets (x % bucket_count) 0) r) same ∙ (leader.found d).0
+      leads_it = ap (λ (x : ℕ). has (get_or buckets (x % bucket_count) 0) r) same ∙ found.0
 
       group_it : (i : ℕ) → has (get_or grown r 0) i ≡ (passed filled (without_lowest rest) i && eqb (cell r) (cell i))
       group_it i =
@@ -266,18 +259,35 @@ module _ {cell : ℕ → ℕ} {filled rest : ℕ} {buckets leaders equal : List 
           ∙ group_else (passed filled rest i) (passed filled (without_lowest rest) i) (eqb i j) (eqb (cell k) (cell i)) (passed_more filled rest j inv.among low i)
           (λ e. ne_eqb (cell k) (cell i) (λ q. n (inv.one k r m leads_it (q ∙ ap cell (eqb-true i j e) ∙ sym same))))
 
-      pub group_more : Grouping cell filled (bit_and rest (rest - 1)) buckets (set leaders j r) grown
-      unfolding without_lowest
-      group_more = record {
-        among = among_more filled rest j inv.among low;
-        held = bucket_more;
-        one = inv.one;
-        group = λ k i m.
-            bool_cases (eqb k r)
-            (λ e. subst (λ (x : ℕ). has (get_or grown x 0) i ≡ (passed filled (without_lowest rest) i && eqb (cell x) (cell i))) (sym (eqb-true k r e)) (group_it i))
-            (λ e. group_other k i m (eqb-false k r e));
-        led = led_more r buckets (λ k m. m) leads_it same;
-      }
+      more_group : Grouping cell filled left buckets (set leaders j r) grown
+      more_group =
+          subst (λ (k : ℕ). Grouping cell filled k buckets (set leaders j r) grown) (sym next.rest) (record {
+            size = inv.size;
+            among = among_more filled rest j inv.among low;
+            held = bucket_more;
+            one = inv.one;
+            group = λ k i m.
+                bool_cases (eqb k r)
+                (λ e. subst (λ (x : ℕ). has (get_or grown x 0) i ≡ (passed filled (without_lowest rest) i && eqb (cell x) (cell i))) (sym (eqb-true k r e)) (group_it i))
+                (λ e. group_other k i m (eqb-false k r e));
+            led = led_more r buckets (λ k m. m) leads_it same;
+          })
+
+    -- x is the row's cell
+    module _ {x : ℕ} (e : x ≡ cell j) where
+      pub group_new : LeaderOf cell x (get_or buckets (x % bucket_count) 0) None → j < length equal
+          → Grouping cell filled left (set buckets (x % bucket_count) (bit_or (get_or buckets (x % bucket_count) 0) ((1 * 2 ^ j) % 2 ^ word_bits))) (set leaders j j)
+          (set equal j ((1 * 2 ^ j) % 2 ^ word_bits))
+      group_new none room =
+          subst
+          (λ (y : ℕ). Grouping cell filled left (set buckets (y % bucket_count) (bit_or (get_or buckets (y % bucket_count) 0) ((1 * 2 ^ j) % 2 ^ word_bits)))
+          (set leaders j j) (set equal j ((1 * 2 ^ j) % 2 ^ word_bits)))
+          (sym e)
+          (new_group (subst (λ (y : ℕ). LeaderOf cell y (get_or buckets (y % bucket_count) 0) None) e none) room)
+
+      pub group_more : (r : ℕ) → LeaderOf cell x (get_or buckets (x % bucket_count) 0) (Some r) → r < length equal
+          → Grouping cell filled left buckets (set leaders j r) (set equal r (bit_or (get_or equal r 0) ((1 * 2 ^ j) % 2 ^ word_bits)))
+      group_more r found room = more_group r (subst (λ (y : ℕ). LeaderOf cell y (get_or buckets (y % bucket_count) 0) (Some r)) e found) room
 
 -- all rows are grouped
 pub group_end : (cell : ℕ → ℕ) (filled rest : ℕ) (buckets leaders equal : List ℕ) → rest ≡ 0 → Inside filled (length equal)

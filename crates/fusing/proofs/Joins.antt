@@ -1,12 +1,13 @@
 -- The joined rows of all listed sets, one after the other. Assumes nothing.
 use mathlib.Core.Path.{◌≡◌, sym, ◌∙◌, ap, subst}
 use mathlib.Core.Bool.{Bool}
-use mathlib.Core.List.{List, [], map, flatten}
-use Prim.Native.Nat.{ℕ, ◌+◌, ◌*◌, ◌<◌, ◌≤◌}
+use mathlib.Core.List.{List, [], ◌++◌, map, flatten, append_assoc}
+use Prim.Native.Nat.{ℕ, ◌+◌, ◌-◌, ◌*◌, ◌<◌, ◌≤◌}
 use native.Mathlib.Nat.{add-mul, one-mul, zero-mul, zero-add}
 use native.Mathlib.Omega.{arith}
-use lib.ListN.{length, get_or, take, length-map}
-use lib.Seq.{paste}
+use borrow.Rule.Slice.PartMut.{put_mid, Post-is}
+use lib.ListN.{length, get_or, take, drop, length-map}
+use lib.Seq.{paste, take_all}
 use Rattle.definitions.specs.Image.{rows_in}
 use Rattle.definitions.specs.ComplementUnion.{joined, union_sets}
 use Rattle.definitions.specs.SetList.{bits}
@@ -20,6 +21,13 @@ use Rattle.fusing.specs.Fused.{RowsOf, AllSetsOf, joined_rows}
 use Rattle.fusing.specs.Join.{pick_from}
 use Rattle.fusing.proofs.Picks.{joined_wide, picks_joined}
 
+-- a row put in the place of as many words
+put_paste : (at c : ℕ) (out row : List ℕ) → length row ≡ c → put_mid at (at + c - at) out row ≡ paste out at row c
+put_paste at c out row e =
+    ap (λ (z : List ℕ). take at out ++ (row ++ z)) (Post-is at (at + c) out (omega arith))
+    ∙ sym (append_assoc (take at out) row (drop (at + c) out))
+    ∙ ap (λ (r : List ℕ). take at out ++ r ++ drop (at + c) out) (sym (take_all c row (omega arith)))
+
 -- as many sets as are listed
 pub sets_count : (sets : List ℕ) (ss : List (List Bool)) → sets ≡ map bits ss → length ss ≡ length sets
 sets_count sets ss known = sym (ap length known ∙ length-map ss bits)
@@ -28,7 +36,7 @@ pub set_at : (sets : List ℕ) (k : ℕ) (ss : List (List Bool)) → sets ≡ ma
 set_at sets k ss known more =
     ap (λ (l : List ℕ). get_or l k 0) known ∙ map_at bits [] 0 ss k (omega (arith, sets_count sets ss known))
 
-module _ {words w : List ℕ} {n c : ℕ} {columns sets : List ℕ} (o : RowsOf w n c columns) (g : AllSetsOf words (rows_in c n w) sets)
+module _ {words w : List ℕ} {n c : ℕ} {columns sets : List ℕ} (o : RowsOf w n c columns) (each : length columns ≡ c) (g : AllSetsOf words (rows_in c n w) sets)
     (found : List ℕ) (space : length sets * c ≤ length found) where
   abbrev rows : List (List ℕ)
   rows = rows_in c n w
@@ -47,24 +55,27 @@ module _ {words w : List ℕ} {n c : ℕ} {columns sets : List ℕ} (o : RowsOf 
   pub joins_none : Pasted found 0 (flatten (joined_rows words rows)) (0 * c) found
   joins_none = subst (λ (k : ℕ). Pasted found 0 (flatten (joined_rows words rows)) k found) (sym (zero-mul c)) (paste_none found 0 (flatten (joined_rows words rows)))
 
-  pub joins_turn : (k at : ℕ) (now new : List ℕ) → k < length sets → at ≡ k * c → Pasted found 0 (flatten (joined_rows words rows)) (k * c) now
-      → new ≡ paste now at (pick_from c w (get_or sets k 0) 0 (take c columns)) c → Pasted found 0 (flatten (joined_rows words rows)) ((k + 1) * c) new
-  joins_turn k at now new more here p e =
+  -- the row k is put in the place of those words
+  pub joins_turn : (k : ℕ) (now row : List ℕ) → k < length sets → row ≡ pick_from c w (get_or sets k 0) 0 columns
+      → Pasted found 0 (flatten (joined_rows words rows)) (k * c) now
+      → Pasted found 0 (flatten (joined_rows words rows)) ((k + 1) * c) (put_mid (k * c) (k * c + c - k * c) now row)
+  joins_turn k now row more e p =
       let size = joins_size in
       let count = joins_count in
       let within : k * c + c ≤ length sets * c = row_fits c (length sets) k more in
       let s = get_or (union_sets words rows) k [] in
       let l : k < length (union_sets words rows) = omega (arith, sets_count sets (union_sets words rows) g.listed) in
       let member : Member s (union_sets words rows) = member-get [] (union_sets words rows) k l in
-      let row : pick_from c w (get_or sets k 0) 0 (take c columns) ≡ joined rows s =
-      ap (λ (x : ℕ). pick_from c w x 0 (take c columns)) (set_at sets k (union_sets words rows) g.listed more)
-      ∙ picks_joined words c n w columns o.fits o.filled s member in
+      let is_row : row ≡ joined rows s =
+      e ∙ ap (λ (x : ℕ). pick_from c w x 0 columns) (set_at sets k (union_sets words rows) g.listed more)
+      ∙ picks_joined words c n w columns o.fits o.filled s member each in
       let next : k * c + c ≡ (k + 1) * c = omega (arith, add-mul k 1 c, one-mul c) in
-      subst (λ (i : ℕ). Pasted found 0 (flatten (joined_rows words rows)) i new) next
-      (pasted_more found 0 (flatten (joined_rows words rows)) (k * c) now new (joined rows s) c at (omega arith) (omega arith) p (here ∙ sym (zero-add (k * c)))
-      (joined_wide words c n w columns o.fits o.filled s member)
+      let wide : length (joined rows s) ≡ c = joined_wide words c n w columns o.fits o.filled s member in
+      subst (λ (i : ℕ). Pasted found 0 (flatten (joined_rows words rows)) i (put_mid (k * c) (k * c + c - k * c) now row)) next
+      (pasted_more found 0 (flatten (joined_rows words rows)) (k * c) now (put_mid (k * c) (k * c + c - k * c) now row) (joined rows s) c (k * c) (omega arith) (omega arith) p
+      (sym (zero-add (k * c))) wide
       (flat_row c [] (joined_rows words rows) k joins_wide (omega arith) ∙ map_at (joined rows) [] [] (union_sets words rows) k l)
-      (e ∙ ap (λ (r : List ℕ). paste now at r c) row))
+      (put_paste (k * c) c now row (ap length is_row ∙ wide) ∙ ap (λ (r : List ℕ). paste now (k * c) r c) is_row))
 
   pub joins_end : (k : ℕ) (now : List ℕ) → k ≡ length sets → Pasted found 0 (flatten (joined_rows words rows)) (k * c) now
       → rows_in c (length sets) now ≡ joined_rows words rows

@@ -1,8 +1,8 @@
 -- Laws of the graph of T, of joined rows and of the fused table.
-pub mod Lists
 pub mod Words
 pub mod Rests
 pub mod FilledRows
+pub mod HeldRows
 pub mod Grouping
 pub mod Counting
 pub mod Apart

@@ -1,12 +1,12 @@
 -- The neighbours of each row, narrowed column by column to those that agree with it. Assumes nothing.
-use mathlib.Core.Path.{◌≡◌, refl, sym, ◌∙◌, ap, ap₂}
+use mathlib.Core.Path.{◌≡◌, refl, sym, ◌∙◌, ap, ap₂, subst}
 use mathlib.Core.Bool.{Bool, true, false, not, ◌&&◌, ◌||◌}
 use mathlib.Core.List.{List, []}
 use Prim.Native.Nat.{ℕ, ◌+◌, ◌-◌, ◌*◌, ◌^◌, ◌<◌, ◌≤◌}
 use native.Mathlib.Omega.{arith}
 use lib.Bits.{bit_and, bit_or}
 use lib.Dec.{eqb}
-use lib.ListN.{length, get_or, set, length-set}
+use lib.ListN.{length, get_or, set}
 use lib.Seq.{get_or-set_same, get_or-set_other}
 use borrow.Author.Tests.{eqb-true, eqb-false}
 use Rattle.definitions.proofs.Images.{rows_length}
@@ -22,9 +22,10 @@ use Rattle.patterns.specs.Columns.{ColumnsOf}
 use Rattle.patterns.proofs.FilledRows.{filled-has}
 use Rattle.patterns.proofs.Parts.{row_length}
 use Rattle.fusing.specs.Groups.{cell_at, Groups}
+use Rattle.fusing.specs.Members.{Next}
 use Rattle.fusing.specs.Graph.{NarrowedBy, Narrowed}
 use Rattle.fusing.proofs.Words.{has_lacked}
-use Rattle.fusing.proofs.Rests.{passed, passed_none, passed_all, among_more, next_not, passed_next, passed_else, passed_cases}
+use Rattle.fusing.proofs.Rests.{lowest_of, passed, passed_none, passed_all, among_more, next_not, passed_next, passed_else, passed_cases}
 use Rattle.fusing.proofs.FilledRows.{cell_at_lem}
 use Rattle.fusing.proofs.Agreeing.{cells_agree, AgreesFrom, agree_turn, agree_end}
 
@@ -36,7 +37,6 @@ kept filled leaders equal j word = bit_and word (bit_or (get_or equal (get_or le
 
 -- the words of the rows that are not in the rest are narrowed
 pub record Narrowing (filled : ℕ) (leaders equal found : List ℕ) (rest : ℕ) (now : List ℕ) : Type 0 where
-  pub size : length now ≡ length found
   pub among : (k : ℕ) → has rest k ≡ true → has filled k ≡ true
   pub done : (j : ℕ) → passed filled rest j ≡ true → get_or now j 0 ≡ kept filled leaders equal j (get_or found j 0)
   pub left : (j : ℕ) → passed filled rest j ≡ false → get_or now j 0 ≡ get_or found j 0
@@ -44,20 +44,18 @@ pub record Narrowing (filled : ℕ) (leaders equal found : List ℕ) (rest : ℕ
 module _ (filled : ℕ) (leaders equal found : List ℕ) where
   pub narrow_none : Narrowing filled leaders equal found filled found
   narrow_none = record {
-    size = refl;
     among = λ k h. h;
     done = λ j h. absurd (clash h (passed_none filled j));
     left = λ j h. refl;
   }
 
-  pub narrow_turn : (rest j : ℕ) (now : List ℕ) → Lowest rest j → j < length found → Narrowing filled leaders equal found rest now
-      → Narrowing filled leaders equal found (bit_and rest (rest - 1)) (set now j (kept filled leaders equal j (get_or now j 0)))
-  unfolding without_lowest
-  narrow_turn rest j now low room inv =
+  pub narrow_turn : {rest j left : ℕ} {now : List ℕ} → Next rest j left → j < length now → Narrowing filled leaders equal found rest now
+      → Narrowing filled leaders equal found left (set now j (kept filled leaders equal j (get_or now j 0)))
+  narrow_turn {rest} {j} {left} {now} next within inv =
       let v : ℕ = kept filled leaders equal j (get_or now j 0) in
-      let within : j < length now = omega (arith, inv.size) in
-      record {
-        size = length-set now j v ∙ inv.size;
+      let low : Lowest rest j = lowest_of next in
+      subst (λ (r : ℕ). Narrowing filled leaders equal found r (set now j v)) (sym next.rest)
+      (record {
         among = among_more filled rest j inv.among low;
         done = λ i h.
             passed_cases filled rest j inv.among low i h
@@ -74,7 +72,10 @@ module _ (filled : ℕ) (leaders equal found : List ℕ) where
             (λ e.
             let d = eqb-false i j e in
             get_or-set_other now j i v 0 d ∙ inv.left i (sym (passed_else filled rest j inv.among low i d) ∙ h));
-      }
+      })
+
+  pub narrow_next : {rest j left : ℕ} {now : List ℕ} → Next rest j left → Narrowing filled leaders equal found rest now → has filled j ≡ true
+  narrow_next {rest} {j} next inv = inv.among j (lowest_of next).there
 
   pub narrow_end : (rest : ℕ) (now : List ℕ) → rest ≡ 0 → filled < 2 ^ word_bits → Narrowing filled leaders equal found rest now
       → NarrowedBy filled leaders equal found now
@@ -95,14 +96,6 @@ module _ (filled : ℕ) (leaders equal found : List ℕ) where
 abbrev pub NarrowedTo : List (List ℕ) → List ℕ → ℕ → List ℕ → Type 0
 NarrowedTo rows found c now =
     (j k : ℕ) → j < length rows → k < length rows → AgreesFrom (get_or rows j []) (get_or rows k []) (adjacent found j k) c (adjacent now j k)
-
--- the loop over the columns: c are passed, the lists keep their lengths, and the words hold what the columns leave
-pub record NarrowedColumns (width n : ℕ) (cells found leaders equal now : List ℕ) (c : ℕ) : Type 0 where
-  pub within : c ≤ width
-  pub leader_words : length leaders ≡ max_union_rows
-  pub equal_words : length equal ≡ max_union_rows
-  pub size : length now ≡ length found
-  pub narrowed : NarrowedTo (rows_in width n cells) found c now
 
 pub narrowed_none : (rows : List (List ℕ)) (found : List ℕ) → NarrowedTo rows found 0 found
 narrowed_none rows found j k h g = refl

@@ -4,13 +4,14 @@ use mathlib.Core.Logic.{⊎_elim}
 use mathlib.Core.Bool.{Bool, true, ◌&&◌}
 use mathlib.Core.List.{List, [], ◌∷◌}
 use Prim.Native.Nat.{ℕ, zero, suc, ◌+◌, ◌*◌, ◌^◌, ◌<◌, ◌≤◌}
-use native.Mathlib.Nat.{le_of_suc-le-suc, not-suc-le-zero, add-zero}
+use native.Mathlib.Nat.{le_of_suc-le-suc, not-suc-le-zero, add-zero, zero-add}
 use native.Mathlib.Omega.{arith}
 use lib.Bits.{bit_and}
 use lib.Count.{count_trailing_zeros}
 use lib.Dec.{eqb}
-use lib.ListN.{length, get_or, take}
-use lib.Seq.{get_or-take, ext_get_or, length-take-le}
+use lib.ListN.{length, get_or, set as replace}
+use lib.Seq.{ext_get_or, get_or-set_same, get_or-set_other}
+use borrow.Author.Count.{below_more}
 use borrow.Author.Tests.{eqb-true, eqb-false, eq-eqb, ne_eqb}
 use Rattle.definitions.proofs.Images.{rows_length, rows_wide}
 use Rattle.definitions.specs.Word.{is_filled}
@@ -65,13 +66,23 @@ module _ (width : ℕ) (cells : List ℕ) (set : ℕ) where
       picks_from (suc column) columns i (le_of_suc-le-suc h)
       ∙ ap (λ (k : ℕ). pick_cell width cells k (bit_and set (get_or columns i 0))) (omega arith)
 
-  pub picks_at : (columns : List ℕ) (i : ℕ) → width ≤ length columns → i < width
-      → get_or (pick_from width cells set 0 (take width columns)) i 0 ≡ pick_cell width cells i (bit_and set (get_or columns i 0))
-  picks_at columns i h g =
-      let l : length (take width columns) ≡ width = length-take-le width columns h in
-      picks_from 0 (take width columns) i (omega arith)
-      ∙ ap (λ (k : ℕ). pick_cell width cells k (bit_and set (get_or (take width columns) i 0))) (omega arith)
-      ∙ ap (λ (x : ℕ). pick_cell width cells i (bit_and set x)) (get_or-take width columns i 0 g)
+  pub picks_at : (columns : List ℕ) (i : ℕ) → i < length columns
+      → get_or (pick_from width cells set 0 columns) i 0 ≡ pick_cell width cells i (bit_and set (get_or columns i 0))
+  picks_at columns i h = picks_from 0 columns i h ∙ ap (λ (k : ℕ). pick_cell width cells k (bit_and set (get_or columns i 0))) (zero-add i)
+
+  -- the cells are written one after the other
+  pub picks_turn : (columns out : List ℕ) (i x : ℕ) → i < length columns → i < length out → x ≡ pick_cell width cells i (bit_and set (get_or columns i 0))
+      → ((k : ℕ) → k < i → get_or out k 0 ≡ get_or (pick_from width cells set 0 columns) k 0)
+      → (k : ℕ) → k < i + 1 → get_or (replace out i x) k 0 ≡ get_or (pick_from width cells set 0 columns) k 0
+  picks_turn columns out i x h room e inv =
+      below_more (λ (k : ℕ). get_or (replace out i x) k 0 ≡ get_or (pick_from width cells set 0 columns) k 0) i
+      (λ k l. get_or-set_other out i k x 0 (λ q. omega arith) ∙ inv k l)
+      (get_or-set_same out i x 0 room ∙ e ∙ sym (picks_at columns i h))
+
+  pub picks_end : (columns out : List ℕ) (i : ℕ) → length out ≡ length columns → length columns ≤ i
+      → ((k : ℕ) → k < i → get_or out k 0 ≡ get_or (pick_from width cells set 0 columns) k 0) → out ≡ pick_from width cells set 0 columns
+  picks_end columns out i e all inv =
+      ext_get_or 0 out (pick_from width cells set 0 columns) (e ∙ sym (picks_length 0 columns)) (λ k h. inv k (omega arith))
 
 -- ---- the joined row of a complementing set
 
@@ -149,12 +160,12 @@ module _ (words : List ℕ) (c n : ℕ) (w columns : List ℕ) (fits : n * c ≤
         (λ e. rw e (sym (first_held (eqb-false held 0 e))))
 
   -- what is written for a listed set is its joined row
-  pub picks_joined : pick_from c w (bits s) 0 (take c columns) ≡ joined rows s
-  picks_joined =
-      let size : length (pick_from c w (bits s) 0 (take c columns)) ≡ c = picks_length c w (bits s) 0 (take c columns) ∙ length-take-le c columns o.size in
-      ext_get_or 0 (pick_from c w (bits s) 0 (take c columns)) (joined rows s) (size ∙ sym joined_wide)
+  pub picks_joined : length columns ≡ c → pick_from c w (bits s) 0 columns ≡ joined rows s
+  picks_joined e =
+      let size : length (pick_from c w (bits s) 0 columns) ≡ c = picks_length c w (bits s) 0 columns ∙ e in
+      ext_get_or 0 (pick_from c w (bits s) 0 columns) (joined rows s) (size ∙ sym joined_wide)
       (λ i h.
       let l : i < c = omega arith in
-      picks_at c w (bits s) columns i o.size l
+      picks_at c w (bits s) columns i (omega arith)
       ∙ ap (λ (x : ℕ). pick_cell c w i (bit_and (bits s) x)) (o.words i l)
       ∙ pick_held i l)

@@ -6,7 +6,11 @@ use lib.Dec.{eqb}
 use borrow.Author.Tests.{eqb-true, eqb-false}
 use Rattle.definitions.proofs.Bools.{bool_cases, bool_eq, clash, and_l}
 use Rattle.bitsets.specs.Bits.{has, without_lowest}
-use Rattle.bitsets.proofs.Bits.{Lowest, has_none, rest_in, rest_of, rest_out}
+use Rattle.bitsets.proofs.Bits.{Lowest, at_lowest, has_none, rest_in, rest_of, rest_out}
+use Rattle.fusing.specs.Members.{Next}
+
+pub lowest_of : {rest m left : ℕ} → Next rest m left → Lowest rest m
+lowest_of {rest} {m} n = at_lowest rest m n.some n.first
 
 -- a row of the set that is no longer in the rest
 abbrev pub passed : ℕ → ℕ → ℕ → Bool

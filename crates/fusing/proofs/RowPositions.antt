@@ -1,13 +1,12 @@
 -- The positions of rows among the distinct ones: those that the indices tell, what the search for one is asked and gives, and all of them one
 -- after the other. Assumes nothing.
 use mathlib.Core.Path.{◌≡◌, refl, sym, ◌∙◌, ap, subst}
-use mathlib.Core.List.{List, [], ◌++◌}
+use mathlib.Core.List.{List, []}
 use Prim.Native.Nat.{ℕ, ◌+◌, ◌-◌, ◌*◌, ◌<◌, ◌≤◌}
-use native.Mathlib.Nat.{zero-add}
 use native.Mathlib.Omega.{arith}
 use lib.Dec.{eqb}
-use lib.ListN.{length, get_or, set, take, drop, length-set, length-map, get_or-map}
-use lib.Seq.{paste, take_all, length-take-le, drop-drop, drop-set-lt, get_or-take, get_or-set_same, get_or-set_other, set-get_or}
+use lib.ListN.{length, get_or, set, take, drop, length-set, length-map, get_or-map, replicate, get_or-replicate}
+use lib.Seq.{take_all, get_or-set_same, get_or-set_other, ext_get_or}
 use borrow.Author.Count.{below_more}
 use borrow.Author.Tests.{eqb-true, eqb-false}
 use Rattle.definitions.proofs.Images.{rows_length}
@@ -20,62 +19,44 @@ use Rattle.definitions.proofs.Lists.{map_at, find_index-strict}
 use Rattle.definitions.proofs.Orders.{rows}
 use Rattle.definitions.proofs.Rows.{same_is}
 use Rattle.lists.proofs.Flat.{rows_at_lem}
-use Rattle.lists.proofs.Pastes.{Pasted, paste_turn}
-use Rattle.rows.specs.Indices.{row_at, rows_at, Below, AscendingIndices, Ordered}
-use Rattle.rows.proofs.Indices.{below_at}
+use Rattle.rows.specs.Indices.{row_at, rows_at, AscendingIndices, Ordered}
 use Rattle.rows.proofs.Positions.{ordered_ascending, ordered_member}
-use Rattle.fusing.specs.Positions.{positions_in, Cleared, OwnPositions}
-use Rattle.fusing.proofs.Lists.{paste_rest}
+use Rattle.fusing.specs.Positions.{positions_in, OwnPositions}
 use Rattle.patterns.proofs.Parts.{part_is, part_length}
 
 -- ---- the positions that the indices tell
 
-pub cleared_none : (m : ℕ) (found : List ℕ) → Cleared m 0 found found
-cleared_none m found = record { size = refl; clear = λ i h. absurd (omega arith); rest = refl }
+pub own_none : (order positions : List ℕ) → positions ≡ replicate (length positions) (length order) → OwnPositions order positions
+own_none order positions e = record {
+  named = λ i h some. absurd (some (ap (λ (l : List ℕ). get_or l i 0) e ∙ get_or-replicate (length positions) i (length order) 0 h));
+}
 
-pub cleared_turn : (m k : ℕ) (found positions : List ℕ) → k < length found → Cleared m k found positions → Cleared m (k + 1) found (set positions k m)
-cleared_turn m k found positions h c =
-    let size : length positions ≡ length found = c.size in
+-- the index at j names its row
+pub own_turn : (order positions : List ℕ) (j : ℕ) → j < length order → get_or order j 0 < length positions → OwnPositions order positions
+    → OwnPositions order (set positions (get_or order j 0) j)
+own_turn order positions j h small p =
+    let k = get_or order j 0 in
     record {
-      size = length-set positions k m ∙ size;
-      clear = below_more (λ (i : ℕ). get_or (set positions k m) i 0 ≡ m) k
-          (λ i g. get_or-set_other positions k i m 0 (λ q. omega arith) ∙ c.clear i g)
-          (get_or-set_same positions k m 0 (omega arith));
-      rest = drop-set-lt (k + 1) positions k m (omega arith) ∙ sym (drop-drop 1 k positions) ∙ ap (drop 1) c.rest ∙ drop-drop 1 k found;
+      named = λ i g some.
+          bool_cases (eqb i k)
+          (λ e.
+          let q : i ≡ k = eqb-true i k e in
+          let here : get_or (set positions k j) i 0 ≡ j = ap (λ (x : ℕ). get_or (set positions k j) x 0) q ∙ get_or-set_same positions k j 0 small in
+          (omega arith, ap (λ (x : ℕ). get_or order x 0) here ∙ sym q))
+          (λ e.
+          let here : get_or (set positions k j) i 0 ≡ get_or positions i 0 = get_or-set_other positions k i j 0 (eqb-false i k e) in
+          let old = p.named i (omega (arith, length-set positions k j)) (λ z. some (here ∙ z)) in
+          (omega (arith, old.0), ap (λ (x : ℕ). get_or order x 0) here ∙ old.1));
     }
 
-module _ (order : List ℕ) (m count : ℕ) where
-  pub own_none : (found start : List ℕ) → Cleared m count found start → OwnPositions order m count start start
-  own_none found start c = record { size = refl; named = λ i h some. absurd (some (c.clear i h)); rest = refl }
+-- the positions of the first k rows are written, and those of the others are as the indices tell
+pub record Placed (order all : List ℕ) (k : ℕ) (positions : List ℕ) : Type 0 where
+  pub done : (i : ℕ) → i < k → get_or positions i 0 ≡ get_or all i 0
+  pub named : (i : ℕ) → k ≤ i → i < length positions → (get_or positions i 0 ≡ length order → ⊥)
+      → (get_or positions i 0 < length order) × (get_or order (get_or positions i 0) 0 ≡ i)
 
-  pub own_done : (found start positions : List ℕ) → Cleared m count found start → OwnPositions order m count start positions → OwnPositions order m count found positions
-  own_done found start positions c p = record { size = p.size ∙ c.size; named = p.named; rest = p.rest ∙ c.rest }
-
-  pub index_small : (j : ℕ) → j < m → m ≤ length order → Below count (take m order) → get_or order j 0 < count
-  index_small j h le below =
-      subst (λ (x : ℕ). x < count) (get_or-take m order j 0 h) (below_at count (take m order) j below (omega (arith, length-take-le m order le)))
-
-  -- the index at j names its row
-  pub own_turn : (found positions : List ℕ) (j : ℕ) → j < m → m ≤ length order → Below count (take m order) → count ≤ length found
-      → OwnPositions order m count found positions → OwnPositions order m count found (set positions (get_or order j 0) j)
-  own_turn found positions j h le below room p =
-      let size : length positions ≡ length found = p.size in
-      let k = get_or order j 0 in
-      let small : k < count = index_small j h le below in
-      record {
-        size = length-set positions k j ∙ size;
-        named = λ i g some.
-            bool_cases (eqb i k)
-            (λ e.
-            let q : i ≡ k = eqb-true i k e in
-            let here : get_or (set positions k j) i 0 ≡ j = ap (λ (x : ℕ). get_or (set positions k j) x 0) q ∙ get_or-set_same positions k j 0 (omega arith) in
-            (omega arith, ap (λ (x : ℕ). get_or order x 0) here ∙ sym q))
-            (λ e.
-            let here : get_or (set positions k j) i 0 ≡ get_or positions i 0 = get_or-set_other positions k i j 0 (eqb-false i k e) in
-            let old = p.named i g (λ z. some (here ∙ z)) in
-            (omega (arith, old.0), ap (λ (x : ℕ). get_or order x 0) here ∙ old.1));
-        rest = drop-set-lt count positions k j small ∙ p.rest;
-      }
+pub placed_none : (order all positions : List ℕ) → OwnPositions order positions → Placed order all 0 positions
+placed_none order all positions p = record { done = λ i h. absurd (omega arith); named = λ i h. p.named i }
 
 -- ---- all positions
 
@@ -83,6 +64,9 @@ module _ (order : List ℕ) (m count : ℕ) where
 module _ (c n : ℕ) (w l : List ℕ) (fits : n * c ≤ length w) (o : Ordered c n w l) where
   abbrev pub all_positions : List ℕ
   all_positions = positions_in (rows_at c w l) (rows_in c n w)
+
+  whole : take (length l) l ≡ l
+  whole = take_all (length l) l (omega arith)
 
   positions_length : length all_positions ≡ n
   unfolding positions_in
@@ -103,56 +87,49 @@ module _ (c n : ℕ) (w l : List ℕ) (fits : n * c ≤ length w) (o : Ordered c
       ∙ ap (λ (s : List ℕ). find_index (same_row s) (rows_at c w l)) (sym same)
       ∙ find_index-strict rows same_row same_is (row_at c w 0) (rows_at c w l) p (ordered_ascending c n w l o fits).strict (omega (arith, length-map l (row_at c w))))
 
-  -- the row i
-  module _ (i at : ℕ) (more : i < n) (here : at ≡ i * c) where
+  -- the row i, as the part of the words that begins at its first
+  module _ (i : ℕ) (more : i < n) where
     abbrev part : List ℕ
-    part = take (at + c - at) (drop at w)
+    part = take (i * c + c - i * c) (drop (i * c) w)
 
-    pub position_listed : AscendingIndices (length part) w l
-    position_listed = subst (λ (k : ℕ). AscendingIndices k w l) (sym (part_length c n i w fits more at here)) (ordered_ascending c n w l o fits)
+    pub position_listed : AscendingIndices (length part) w (take (length l) l)
+    position_listed =
+        subst (λ (m : List ℕ). AscendingIndices (length part) w m) (sym whole)
+        (subst (λ (k : ℕ). AscendingIndices k w l) (sym (part_length c n i w fits more (i * c) refl)) (ordered_ascending c n w l o fits))
 
-    pub position_member : Member part (rows_at (length part) w l)
+    pub position_member : Member part (rows_at (length part) w (take (length l) l))
     position_member =
-        subst (λ (k : ℕ). Member part (rows_at k w l)) (sym (part_length c n i w fits more at here))
-        (subst (λ (r : List ℕ). Member r (rows_at c w l)) (sym (part_is c n i w fits more at here)) (ordered_member c n w l o i more))
+        subst (λ (m : List ℕ). Member part (rows_at (length part) w m)) (sym whole)
+        (subst (λ (k : ℕ). Member part (rows_at k w l)) (sym (part_length c n i w fits more (i * c) refl))
+        (subst (λ (r : List ℕ). Member r (rows_at c w l)) (sym (part_is c n i w fits more (i * c) refl)) (ordered_member c n w l o i more)))
 
-    pub positions_turn : (found now : List ℕ) (r : ℕ) → n ≤ length found → r ≡ find_index (same_row part) (rows_at (length part) w l)
-        → Pasted found 0 all_positions i now → Pasted found 0 all_positions (i + 1) (set now i r)
-    positions_turn found now r room e p =
-        let size : length all_positions ≡ n = positions_length in
-        paste_turn found 0 all_positions i i now 0 r p (sym (zero-add i)) (omega arith) (omega arith)
-        (e
-        ∙ ap (λ (k : ℕ). find_index (same_row part) (rows_at k w l)) (part_length c n i w fits more at here)
-        ∙ ap (λ (s : List ℕ). find_index (same_row s) (rows_at c w l)) (part_is c n i w fits more at here)
-        ∙ sym (position_is i more))
+    pub placed_turn : (positions : List ℕ) (r : ℕ) → i < length positions → r ≡ find_index (same_row part) (rows_at (length part) w (take (length l) l))
+        → Placed l all_positions i positions → Placed l all_positions (i + 1) (set positions i r)
+    placed_turn positions r room e p = record {
+      done = below_more (λ (k : ℕ). get_or (set positions i r) k 0 ≡ get_or all_positions k 0) i
+          (λ k h. get_or-set_other positions i k r 0 (λ q. omega arith) ∙ p.done k h)
+          (get_or-set_same positions i r 0 room
+          ∙ e
+          ∙ ap (λ (m : List ℕ). find_index (same_row part) (rows_at (length part) w m)) whole
+          ∙ ap (λ (k : ℕ). find_index (same_row part) (rows_at k w l)) (part_length c n i w fits more (i * c) refl)
+          ∙ ap (λ (s : List ℕ). find_index (same_row s) (rows_at c w l)) (part_is c n i w fits more (i * c) refl)
+          ∙ sym (position_is i more));
+      named = λ k h g some.
+          let here : get_or (set positions i r) k 0 ≡ get_or positions k 0 = get_or-set_other positions i k r 0 (λ q. omega arith) in
+          let old = p.named k (omega arith) (omega (arith, length-set positions i r)) (λ z. some (here ∙ z)) in
+          (omega (arith, here, old.0), ap (λ (x : ℕ). get_or l x 0) here ∙ old.1);
+    }
 
   -- the row i, whose position is there
-  positions_there : (i : ℕ) → i < n → (found now : List ℕ) → n ≤ length found → get_or found i 0 < length l → get_or l (get_or found i 0) 0 ≡ i
-      → Pasted found 0 all_positions i now → Pasted found 0 all_positions (i + 1) now
-  positions_there i more found now room h e p =
-      let size : length all_positions ≡ n = positions_length in
-      let old : get_or now i 0 ≡ get_or found i 0 = paste_rest found all_positions now i 0 (omega arith) p.words in
-      subst (λ (x : List ℕ). Pasted found 0 all_positions (i + 1) x) (set-get_or now i 0)
-      (paste_turn found 0 all_positions i i now 0 (get_or now i 0) p (sym (zero-add i)) (omega arith) (omega arith)
-      (old ∙ position_named i (get_or found i 0) more h e))
+  pub placed_stay : (positions : List ℕ) (i : ℕ) → i < n → i < length positions → (get_or positions i 0 ≡ length l → ⊥) → Placed l all_positions i positions
+      → Placed l all_positions (i + 1) positions
+  placed_stay positions i more room some p =
+      let told = p.named i (omega arith) room some in
+      record {
+        done = below_more (λ (k : ℕ). get_or positions k 0 ≡ get_or all_positions k 0) i p.done (position_named i (get_or positions i 0) more told.0 told.1);
+        named = λ k h g s. p.named k (omega arith) g s;
+      }
 
-  pub positions_end : (found start now : List ℕ) (k : ℕ) → k ≡ n → drop n start ≡ drop n found → Pasted start 0 all_positions k now → now ≡ all_positions ++ drop n found
-  positions_end found start now k e rest p =
-      p.words
-      ∙ ap (paste start 0 all_positions) e
-      ∙ ap (λ (s : List ℕ). s ++ drop (0 + n) start) (take_all n all_positions (omega (arith, positions_length)))
-      ∙ ap (λ (i : ℕ). all_positions ++ drop i start) (zero-add n)
-      ∙ ap (λ (s : List ℕ). all_positions ++ s) rest
-
--- the position of the row i is not m: it is there
-pub positions_stay : (c n : ℕ) (w order : List ℕ) (m : ℕ) (fits : n * c ≤ length w) (o : Ordered c n w (take m order)) → m ≤ length order
-    → (i : ℕ) → i < n → (found start now : List ℕ) → n ≤ length found → OwnPositions order m n found start → (get_or now i 0 ≡ m → ⊥)
-    → Pasted start 0 (all_positions c n w (take m order) fits o) i now → Pasted start 0 (all_positions c n w (take m order) fits o) (i + 1) now
-positions_stay c n w order m fits o le i more found start now room own some p =
-    let positions = all_positions c n w (take m order) fits o in
-    let size : length positions ≡ n = positions_length c n w (take m order) fits o in
-    let same : length start ≡ length found = own.size in
-    let old : get_or now i 0 ≡ get_or start i 0 = paste_rest start positions now i 0 (omega arith) p.words in
-    let told = own.named i more (λ z. some (old ∙ z)) in
-    positions_there c n w (take m order) fits o i more start now (omega arith) (omega (arith, told.0, length-take-le m order le))
-    (get_or-take m order (get_or start i 0) 0 told.0 ∙ told.1) p
+  pub placed_end : (positions : List ℕ) (i : ℕ) → length positions ≡ n → n ≤ i → Placed l all_positions i positions → positions ≡ all_positions
+  placed_end positions i e all p =
+      ext_get_or 0 positions all_positions (e ∙ sym positions_length) (λ k h. p.done k (omega arith))

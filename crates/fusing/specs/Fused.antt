@@ -1,6 +1,6 @@
 -- What the steps of complement union ask of T and have found of it: its maximal sets, and the fused table with the positions of the joined
 -- rows. `words` are the union's column words, which say by their marks what complements.
-use Rattle.std.specs.Prelude.{◌≡◌, List, map, ℕ, ◌*◌, ◌≤◌, ◌<◌, length, take}
+use Rattle.std.specs.Prelude.{◌≡◌, List, map, ℕ, ◌*◌, ◌≤◌, ◌<◌, length, take, Option, Some, None}
 use Rattle.definitions.specs.Limits.{max_union_rows, max_sets}
 use Rattle.definitions.specs.Image.{rows_in}
 use Rattle.definitions.specs.ComplementUnion.{joined, union_sets, fused_rows}
@@ -14,11 +14,11 @@ pub record RowsOf (cells : List ℕ) (n width : ℕ) (columns : List ℕ) : Type
   pub fits : n * width ≤ length cells
   pub filled : ColumnsOf (rows_in width n cells) width columns
 
--- r counts the sets where there are no more than may be listed, and the list begins with them
-pub record SetsOf (words : List ℕ) (rows : List (List ℕ)) (list : List ℕ) (r : ℕ) : Type 0 where
-  pub many : max_sets < r → max_sets < length (union_sets words rows)
-  pub few : r ≤ max_sets → length (union_sets words rows) ≡ r
-  pub listed : r ≤ max_sets → take r list ≡ map bits (union_sets words rows)
+-- more sets than may be listed, or how many there are, with which the list begins
+abbrev pub SetsOf : List ℕ → List (List ℕ) → List ℕ → Option ℕ → Type 0
+SetsOf words rows list None = max_sets < length (union_sets words rows)
+SetsOf words rows list (Some r) =
+    (r ≤ max_sets) × (r ≡ length (union_sets words rows)) × (take r list ≡ map bits (union_sets words rows))
 
 -- the list holds the sets, and nothing else
 pub record AllSetsOf (words : List ℕ) (rows : List (List ℕ)) (list : List ℕ) : Type 0 where

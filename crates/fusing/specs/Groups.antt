@@ -1,5 +1,5 @@
 -- The rows of a column as groups of equal cells: each row has a leader, and a word for each leader holds the rows that it leads.
-use Rattle.std.specs.Prelude.{◌≡◌, true, ◌&&◌, List, ℕ, ◌+◌, ◌*◌, ◌<◌, eqb, length, get_or}
+use Rattle.std.specs.Prelude.{◌≡◌, true, ◌&&◌, List, ℕ, ◌+◌, ◌*◌, ◌<◌, eqb, length, get_or, Option, MatchOption}
 use Rattle.bitsets.specs.Bits.{has}
 
 -- leaders are kept by the last digit of their cells, a bucket a digit
@@ -10,10 +10,9 @@ bucket_count = 16
 abbrev pub cell_at : ℕ → List ℕ → ℕ → ℕ → ℕ
 cell_at width cells column k = get_or cells (k * width + column) 0
 
--- r is one of the rows, with the cell x; or it is j, and none of the rows has that cell
-pub record LeaderOf (cell : ℕ → ℕ) (x rows j r : ℕ) : Type 0 where
-  pub found : (r ≡ j → ⊥) → (has rows r ≡ true) × (cell r ≡ x)
-  pub none : r ≡ j → (k : ℕ) → has rows k ≡ true → cell k ≡ x → ⊥
+-- one of the rows, with the cell x; or nothing, and none of the rows has that cell
+abbrev pub LeaderOf : (ℕ → ℕ) → ℕ → ℕ → Option ℕ → Type 0
+LeaderOf cell x rows r = MatchOption r ((k : ℕ) → has rows k ≡ true → cell k ≡ x → ⊥) (λ k. (has rows k ≡ true) × (cell k ≡ x))
 
 -- each row of a set has a leader with a word
 abbrev pub Led : ℕ → List ℕ → List ℕ → Type 0

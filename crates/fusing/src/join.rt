@@ -1,59 +1,48 @@
 // The joined rows of sets. In each column the first member that is filled there has the number, so that a joined row takes one step a
 // column, however many members there are.
-ghost use Rattle.std.specs.Prelude.{◌≡◌, ◌+◌, ◌*◌, ◌≤◌, length, take};
-ghost use Rattle.std.proofs.Math.Seq.{paste};
+ghost use Rattle.std.specs.Prelude.{◌≡◌, ◌*◌, ◌≤◌, ◌<◌, length};
 ghost use Rattle.definitions.specs.Image.{rows_in};
-ghost use Rattle.fusing.specs.Columns.{Reach, AllReach};
-ghost use Rattle.fusing.specs.Fused.{RowsOf, AllSetsOf, joined_rows};
+ghost use Rattle.bitsets.specs.Bits.{Inside};
+ghost use Rattle.fusing.specs.Fused.{AllSetsOf, joined_rows};
+ghost use Rattle.fusing.specs.UnionRows.{rows_of};
 ghost use Rattle.fusing.specs.Join.{pick_cell, pick_from};
 
-// The cell in a column of the first row of the set; empty where the set is.
-fn pick_cell(cells: &[u32], width: usize, column: usize, set: u64) -> u32
-    requires { Reach width cells.now column set }
-    ensures { result ≡ pick_cell width cells.now column set }
+use crate::union_rows::UnionRows;
+
+// The cell in column c of the first row of the set; empty where the set is.
+fn pick_cell(t: &UnionRows, c: usize, set: u64) -> u32
+    requires { (c < length t.now.column_words.now) × Inside set t.now.len }
+    ensures { result ≡ pick_cell (length t.now.column_words.now) t.now.cells.now c set }
 {
     if set == 0 {
         return 0;
     }
-    let row = u64::trailing_zeros(set) as usize;
-    cells[row * width + column]
+    t.cell(set.trailing_zeros() as usize, c)
 }
 
-// Writes the joined row of the set over the words of out from `at`.
-fn join_set(cells: &[u32], columns: &[u64], width: usize, set: u64, out: &mut [u32], at: usize)
-    requires { (width ≤ length columns.now) × AllReach width columns.now cells.now
-        × (at + width ≤ length out.old) }
-    ensures { out.new ≡ paste out.old at
-        (pick_from width cells.now set 0 (take width columns.now)) width }
+// Writes the joined row of the set.
+fn join_set(t: &UnionRows, set: u64, out: &mut [u32])
+    requires { length out.old ≡ length t.now.column_words.now }
+    ensures { out.new ≡ pick_from (length t.now.column_words.now) t.now.cells.now set 0 t.now.columns.now }
 {
-    let mut i = 0;
-    while i < width {
-        out[at + i] = pick_cell(cells, width, i, set & columns[i]);
-        i += 1;
+    for (c, filled) in t.columns.iter().enumerate() {
+        out[c] = pick_cell(t, c, set & *filled);
     }
 }
 
-// Writes the joined rows of the maximal sets of the first n rows.
-pub(crate) fn join_sets(
-    column_words: &[u32],
-    cells: &[u32],
-    n: usize,
-    columns: &[u64],
-    sets: &[u64],
-    out: &mut [u32],
-)
-    requires { RowsOf cells.now n (length column_words.now) columns.now
-        × AllSetsOf column_words.now (rows_in (length column_words.now) n cells.now) sets.now
-        × (length sets.now * length column_words.now ≤ length out.old) }
-    ensures { rows_in (length column_words.now) (length sets.now) out.new
-        ≡ joined_rows column_words.now
-        (rows_in (length column_words.now) n cells.now) }
+// Writes the joined rows of the maximal sets.
+pub(crate) fn join_sets(t: &UnionRows, sets: &[u64], out: &mut [u32])
+    requires { AllSetsOf t.now.column_words.now (rows_of t.now) sets.now
+        × (length sets.now * length t.now.column_words.now ≤ length out.old) }
+    ensures { rows_in (length t.now.column_words.now) (length sets.now) out.new
+        ≡ joined_rows t.now.column_words.now (rows_of t.now) }
 {
-    let mut k = 0;
-    let mut at = 0;
-    while k < sets.len() {
-        join_set(cells, columns, column_words.len(), sets[k], out, at);
-        at += column_words.len();
-        k += 1;
+    // A copy, which the writes can't reach: its slices are read once.
+    let t = *t;
+    let width = t.column_words.len();
+    // Not by chunks_exact_mut: T may have no column, and a chunk has at least one word.
+    for (k, set) in sets.iter().enumerate() {
+        let at = k * width;
+        join_set(&t, *set, &mut out[at..at + width]);
     }
 }

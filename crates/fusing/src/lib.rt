@@ -6,5 +6,8 @@ mod graph;
 mod groups;
 mod join;
 mod positions;
+mod union_rows;
+mod walk;
 
 pub use fused::{fuse_rows, list_sets};
+pub use union_rows::UnionRows;

@@ -1,63 +1,38 @@
 // The position of each joined row in the fused table.
-ghost use Rattle.std.specs.Prelude.{◌≡◌, ◌++◌, ◌≤◌, length, take, drop};
+ghost use Rattle.std.specs.Prelude.{◌≡◌, ◌≤◌, length};
 ghost use Rattle.definitions.specs.Limits.{max_sets};
 ghost use Rattle.definitions.specs.Image.{rows_in};
-ghost use Rattle.rows.specs.Indices.{rows_at};
-ghost use Rattle.fusing.specs.Positions.{positions_in, Cleared, OwnPositions, RowIndices, DistinctRows};
+ghost use Rattle.rows.specs.Indices.{rows_at, Below};
+ghost use Rattle.fusing.specs.Positions.{positions_in, OwnPositions, DistinctRows};
 
 use rows::position_of;
 
-// Writes m, which is no position, for each of the first count rows.
-fn clear_positions(m: usize, count: usize, positions: &mut [u32])
-    requires { (m ≤ max_sets) × (count ≤ length positions.old) }
-    ensures { Cleared m count positions.old positions.new }
+// Writes the position of each row whose own index is one of those given; for another row as many as they are, which is no position.
+// The list is written as it is lent, in words: an Option for each would take another list.
+fn fill_own(order: &[u32], positions: &mut [u32])
+    requires { (length order.now ≤ max_sets) × Below (length positions.old) order.now }
+    ensures { OwnPositions order.now positions.new }
 {
-    let mut k = 0;
-    while k < count {
-        positions[k] = m as u32;
-        k += 1;
+    positions.fill(order.len() as u32);
+    for (j, x) in order.iter().enumerate() {
+        positions[*x as usize] = j as u32;
     }
 }
 
-// Writes the position of each row whose own index is one of the first m, and m for the others of the first count rows.
-fn fill_own(order: &[u32], m: usize, count: usize, positions: &mut [u32])
-    requires { RowIndices order.now m count positions.old }
-    ensures { OwnPositions order.now m count positions.old positions.new }
+// Writes the position of each row among the distinct ones, whose indices stand in ascending order of the rows. Only a row that equals
+// another, and is named by the other's index, is sought.
+pub(crate) fn find_positions(cells: &[u32], width: usize, order: &[u32], positions: &mut [u32])
+    requires { DistinctRows cells.now width (length positions.old) order.now }
+    ensures { positions.new ≡ positions_in (rows_at width cells.now order.now)
+        (rows_in width (length positions.old) cells.now) }
 {
-    clear_positions(m, count, positions);
-    let mut j = 0;
-    while j < m {
-        positions[order[j] as usize] = j as u32;
-        j += 1;
-    }
-}
-
-// Writes the position of each of the first count rows among the distinct ones, whose indices stand in ascending order of the rows. Only a
-// row that equals another, and is named by the other's index, is sought.
-pub(crate) fn find_positions(
-    cells: &[u32],
-    width: usize,
-    count: usize,
-    order: &[u32],
-    m: usize,
-    positions: &mut [u32],
-)
-    requires { DistinctRows cells.now width count order.now m × (count ≤ length positions.old) }
-    ensures { positions.new ≡ positions_in (rows_at width cells.now (take m order.now))
-        (rows_in width count cells.now) ++ drop count positions.old }
-{
-    fill_own(order, m, count, positions);
-    let mut k = 0;
-    let mut at = 0;
-    while k < count {
-        let next = at + width;
-        if positions[k] as usize == m {
-            positions[k] = position_of(cells, order, m, &cells[at..next]) as u32;
-            at = next;
-            k += 1;
-        } else {
-            at = next;
-            k += 1;
+    fill_own(order, positions);
+    // Not by chunks_exact: a row may have no cell, and a chunk has at least one word.
+    for k in 0..positions.len() {
+        if positions[k] as usize == order.len() {
+            let at = k * width;
+            let row = &cells[at..at + width];
+            positions[k] = position_of(cells, order, order.len(), row) as u32;
         }
     }
 }

@@ -1,5 +1,5 @@
 -- The counts of a done answer fit words of 32 bits: by the limits on columns, rows and sets. Assumes nothing.
-use mathlib.Core.Path.{◌≡◌, sym, subst}
+use mathlib.Core.Path.{◌≡◌, sym, ◌∙◌, ap, subst}
 use mathlib.Core.List.{List, [], ◌∷◌, flatten}
 use Prim.Native.Nat.{ℕ, ◌+◌, ◌-◌, ◌*◌, ◌^◌, ◌≤◌, ◌<◌}
 use native.Mathlib.Nat.{mul-le-mul}
@@ -11,7 +11,13 @@ use Rattle.definitions.specs.Image.{image_of}
 use Rattle.definitions.specs.OuterUnion.{union_columns, union_rows}
 use Rattle.definitions.specs.MinimumUnion.{filled, minimum_rows}
 use Rattle.definitions.specs.ComplementUnion.{fused_rows}
-use Rattle.definitions.specs.Answer.{done}
+use Rattle.std.proofs.Common.{Result, Ok}
+use Rattle.definitions.specs.declared.answers.OuterCounts.{OuterCounts}
+use Rattle.definitions.specs.declared.answers.MinimumCounts.{MinimumCounts}
+use Rattle.definitions.specs.declared.answers.ComplementCounts.{ComplementCounts}
+use Rattle.definitions.specs.declared.answers.ReadingCounts.{ReadingCounts}
+use Rattle.definitions.specs.declared.refusal.Refusal.{Refusal}
+use Rattle.definitions.specs.Answer.{done, outer_says, minimum_says, complement_says, read_says}
 use Rattle.definitions.specs.Calls.{outer_image, minimum_image, fused_image, outer_outcome, minimum_outcome, complement_outcome}
 use Rattle.definitions.specs.ReadBack.{read_outcome}
 use Rattle.definitions.specs.Page.{page_outcome}
@@ -98,3 +104,23 @@ page_fits image n room values e =
     let d = (page_done image n room values).0 e in
     let w = few_pages image d.accepted in
     subst FitWords (sym d.carries) (omega arith, tt)
+
+-- ---- the counts of an answer that is done
+
+module _ (a b : List ℕ) (room : ℕ) where
+  pub outer_told : (counts : OuterCounts) {answer : Result OuterCounts Refusal} → outer_says answer ≡ outer_outcome a b room → answer ≡ Ok counts
+      → FitWords (counts.rows ∷ counts.words ∷ counts.filled ∷ [])
+  outer_told counts said is = outer_fits a b room _ (sym said ∙ ap outer_says is)
+
+  pub minimum_told : (counts : MinimumCounts) {answer : Result MinimumCounts Refusal} → minimum_says answer ≡ minimum_outcome a b room → answer ≡ Ok counts
+      → FitWords (counts.rows ∷ counts.words ∷ counts.filled ∷ counts.pairs ∷ [])
+  minimum_told counts said is = minimum_fits a b room _ (sym said ∙ ap minimum_says is)
+
+  pub complement_told : (sets_room : ℕ) (counts : ComplementCounts) {answer : Result ComplementCounts Refusal}
+      → complement_says answer ≡ complement_outcome a b room sets_room → answer ≡ Ok counts
+      → FitWords (counts.rows ∷ counts.words ∷ counts.filled ∷ counts.sets ∷ counts.set_words ∷ [])
+  complement_told sets_room counts said is = complement_fits a b room sets_room _ (sym said ∙ ap complement_says is)
+
+pub read_told : (list : List ℕ) (rows room : ℕ) (counts : ReadingCounts) {answer : Result ReadingCounts Refusal}
+    → read_says answer ≡ read_outcome list rows room → answer ≡ Ok counts → FitWords (counts.sets ∷ counts.words ∷ [])
+read_told list rows room counts said is = read_fits list rows room _ (sym said ∙ ap read_says is)

@@ -8,7 +8,6 @@ ghost use Rattle.definitions.specs.Promise.{OuterPromise, MinimumPromise, Comple
 ghost use Rattle.definitions.specs.CInterface.{outer_words, minimum_words, complement_words, list_words, page_words, Answered};
 
 use crate::answers::{put_refusal, put_words};
-use definitions::{ComplementAnswer, MinimumAnswer, OuterAnswer, PageAnswer, ReadAnswer};
 
 #[unsafe(no_mangle)]
 pub extern "C" fn fusion_outer_union(
@@ -22,15 +21,13 @@ pub extern "C" fn fusion_outer_union(
         outer_words answer.old result answer.new }
 {
     match unions::outer_union(first, second, table) {
-        OuterAnswer::Done {
-            rows,
-            words,
-            filled,
-        } => put_words(
-            &[0, 0, rows as u32, words as u32, filled as u32, 0, 0, 0, 0],
-            answer,
-        ),
-        OuterAnswer::Refused { number, table } => put_refusal(number, table, answer),
+        Ok(done) => {
+            let rows = done.rows as u32;
+            let words = done.words as u32;
+            let filled = done.filled as u32;
+            put_words(&[0, 0, rows, words, filled, 0, 0, 0, 0], answer)
+        }
+        Err(refusal) => put_refusal(refusal, answer),
     }
 }
 
@@ -46,26 +43,14 @@ pub extern "C" fn fusion_minimum_union(
         minimum_words answer.old result answer.new }
 {
     match unions::minimum_union(first, second, table) {
-        MinimumAnswer::Done {
-            rows,
-            words,
-            filled,
-            pairs,
-        } => put_words(
-            &[
-                0,
-                0,
-                rows as u32,
-                words as u32,
-                filled as u32,
-                pairs as u32,
-                0,
-                0,
-                0,
-            ],
-            answer,
-        ),
-        MinimumAnswer::Refused { number, table } => put_refusal(number, table, answer),
+        Ok(done) => {
+            let rows = done.rows as u32;
+            let words = done.words as u32;
+            let filled = done.filled as u32;
+            let pairs = done.pairs as u32;
+            put_words(&[0, 0, rows, words, filled, pairs, 0, 0, 0], answer)
+        }
+        Err(refusal) => put_refusal(refusal, answer),
     }
 }
 
@@ -83,27 +68,15 @@ pub extern "C" fn fusion_complement_union(
         complement_words answer.old result answer.new }
 {
     match unions::complement_union(first, second, table, sets) {
-        ComplementAnswer::Done {
-            rows,
-            words,
-            filled,
-            sets,
-            set_words,
-        } => put_words(
-            &[
-                0,
-                0,
-                rows as u32,
-                words as u32,
-                filled as u32,
-                0,
-                sets as u32,
-                set_words as u32,
-                0,
-            ],
-            answer,
-        ),
-        ComplementAnswer::Refused { number, table } => put_refusal(number, table, answer),
+        Ok(done) => {
+            let rows = done.rows as u32;
+            let words = done.words as u32;
+            let filled = done.filled as u32;
+            let sets = done.sets as u32;
+            let set_words = done.set_words as u32;
+            put_words(&[0, 0, rows, words, filled, 0, sets, set_words, 0], answer)
+        }
+        Err(refusal) => put_refusal(refusal, answer),
     }
 }
 
@@ -119,11 +92,12 @@ pub extern "C" fn fusion_read_set_list(
         list_words answer.old result answer.new }
 {
     match set_lists::read_set_list(list, rows, words) {
-        ReadAnswer::Done { sets, words } => put_words(
-            &[0, 0, 0, words as u32, 0, 0, sets as u32, 0, 0],
-            answer,
-        ),
-        ReadAnswer::Refused { number, table } => put_refusal(number, table, answer),
+        Ok(done) => {
+            let words = done.words as u32;
+            let sets = done.sets as u32;
+            put_words(&[0, 0, 0, words, 0, 0, sets, 0, 0], answer)
+        }
+        Err(refusal) => put_refusal(refusal, answer),
     }
 }
 
@@ -134,7 +108,7 @@ pub extern "C" fn fusion_page(image: &[u32], page: u32, bytes: &mut [u8], answer
         page_words answer.old result answer.new }
 {
     match pages::page(image, page, bytes) {
-        PageAnswer::Done { pages } => put_words(&[0, 0, 0, 0, 0, 0, 0, 0, pages as u32], answer),
-        PageAnswer::Refused { number, table } => put_refusal(number, table, answer),
+        Ok(pages) => put_words(&[0, 0, 0, 0, 0, 0, 0, 0, pages as u32], answer),
+        Err(refusal) => put_refusal(refusal, answer),
     }
 }

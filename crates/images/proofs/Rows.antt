@@ -11,7 +11,12 @@ use Rattle.definitions.specs.Limits.{max_columns, max_sets}
 use Rattle.definitions.specs.Word.{header_word}
 use Rattle.definitions.specs.Image.{image_of, rows_in}
 use Rattle.definitions.specs.MinimumUnion.{filled}
-use Rattle.definitions.specs.Answer.{done}
+use Rattle.definitions.specs.Answer.{done, refused}
+use Rattle.definitions.specs.Refusal.{question_number, table_number, put_to}
+use Rattle.definitions.specs.declared.refusal.Subject.TheVariants.{Both}
+use Rattle.definitions.specs.declared.refusal.Refusal.{Refusal}
+use Rattle.definitions.specs.declared.refusal.Question.TheVariants.{TableRoom}
+use Rattle.std.proofs.Common.{Ok, Err}
 use Rattle.definitions.proofs.Outcomes.{asked_no, asked_yes}
 use Rattle.lists.proofs.Walks.{part_tail}
 use Rattle.rows.specs.Indices.{row_at, rows_at}
@@ -75,16 +80,17 @@ module _ {columns : List ℕ} {n : ℕ} {cells order : List ℕ} {m : ℕ} (k : 
   -- ---- the returns of `put_image`
 
   module _ (found : List ℕ) where
-    pub no_room : length found < 1 + n + m * n → PutImage (take n columns) rows m found (record { number = 10; words = 0; filled = 0 }) found
-    no_room h = record {
+    pub no_room : length found < 1 + n + m * n → (r : Refusal) → r ≡ put_to Both TableRoom → PutImage (take n columns) rows m found (Err r) found
+    no_room h r e = record {
       promise = λ more. record {
-        answers = asked_no (length image) (length found) 9 _ (omega (arith, image_words));
+        answers = ap (λ (q : Refusal). refused (question_number q.question) (table_number q.subject)) e
+            ∙ asked_no (length image) (length found) 9 _ (omega (arith, image_words));
         writes = refl;
       };
     }
 
     pub room : 1 + n + m * n ≤ length found → (after : List ℕ) (f : ℕ) → WrittenImage columns n cells order m found after f
-        → PutImage (take n columns) rows m found (record { number = 0; words = 1 + n + m * n; filled = f }) after
+        → PutImage (take n columns) rows m found (Ok (record { words = 1 + n + m * n; filled = f })) after
     room h after f w = record {
       promise = λ more. record {
         answers = ap done (image_values found after f w more)

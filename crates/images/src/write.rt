@@ -5,6 +5,9 @@ ghost use Rattle.definitions.specs.Word.{header_word};
 ghost use Rattle.rows.specs.Indices.{rows_at};
 ghost use Rattle.images.specs.Writing.{Writable, WrittenImage, PutImage};
 
+use definitions::{Question, Refusal};
+use rows::Rows;
+
 // Writes the header and the first n column words over the front of the buffer.
 fn write_head(column_words: &[u32], n: usize, rows: usize, buffer: &mut [u32])
     requires { (n ≤ length column_words.now) × (n < length buffer.old) × (rows < 2 ^ 12) × (n < 2 ^ 5) }
@@ -12,7 +15,7 @@ fn write_head(column_words: &[u32], n: usize, rows: usize, buffer: &mut [u32])
         (header_word rows n ∷ take n column_words.now) (1 + n) }
 {
     buffer[0] = words::header_word(rows as u32, n as u32);
-    rows::write_words(column_words, n, buffer, 1);
+    lists::write_over(&column_words[..n], buffer, 1);
 }
 
 // Writes the image of the rows at the first m indices, in the columns of the first n column words, over the front of the buffer; how many of their
@@ -31,14 +34,14 @@ pub fn write_image(
 {
     let start = 1 + n;
     write_head(column_words, n, m, buffer);
-    rows::write_rows(cells, n, order, m, buffer, start);
+    let rows = Rows { cells, width: n };
+    rows.write_rows(&order[..m], &mut buffer[start..]);
     patterns::count_rows(&buffer[start..], m, n)
 }
 
-// Question 10 answered no, with its number; or 0, the words of the image and how many cells are filled.
-#[derive(Drop)]
-pub struct Put {
-    pub number: u32,
+// The words of an image that was written, and how many of its cells are filled.
+#[derive(Clone, Copy, Debug, PartialEq, Eq)]
+pub struct Written {
     pub words: usize,
     pub filled: usize,
 }
@@ -52,23 +55,15 @@ pub fn put_image<'a>(
     order: &[u32],
     m: usize,
     buffer: &mut [u32],
-) -> Put
+) -> Result<Written, Refusal>
     requires { Writable column_words.now n cells.now order.now m }
     ensures { PutImage (take n column_words.now) (rows_at n cells.now (take m order.now)) m
         buffer.old result buffer.new }
 {
     let words = 1 + n + m * n;
     if buffer.len() < words {
-        return Put {
-            number: 10,
-            words: 0,
-            filled: 0,
-        };
+        return Err(Refusal::from(Question::TableRoom));
     }
     let filled = write_image(column_words, n, cells, order, m, buffer);
-    Put {
-        number: 0,
-        words,
-        filled,
-    }
+    Ok(Written { words, filled })
 }

@@ -1,80 +1,60 @@
 -- Laws of a set line: the positions of a record one by one, and the fields behind them. Assumes nothing.
-use mathlib.Core.Path.{◌≡◌, refl, sym, ◌∙◌, ap}
-use mathlib.Core.Bool.{Bool}
-use mathlib.Core.List.{List, [], ◌∷◌, ◌++◌, append_assoc, map}
-use Prim.Native.Nat.{ℕ, suc, ◌+◌, ◌*◌, ◌/◌, ◌%◌, ◌^◌, ◌≤◌, ◌<◌}
-use native.Mathlib.Numerals.{add-one}
-use native.Mathlib.Omega.{arith}
-use lib.Dec.{eqb}
-use lib.ListN.{length, get_or, drop, length-append, drop_of_length-le}
+use Rattle.std.proofs.Common.{◌≡◌, refl, sym, ◌∙◌, ap, ℕ, zero, suc, ◌+◌, ◌*◌, ◌/◌, ◌%◌, ◌^◌, List, [], ◌∷◌, ◌++◌, map, get_or, append_assoc, arith}
+use mathlib.Core.Bool.{Bool, cond}
+use mathlib.Core.List.{flatten}
 use borrow.Author.Tests.{eq-eqb, ne_eqb}
 use Rattle.definitions.specs.Limits.{mark_words, marks_per_word}
-use Rattle.definitions.specs.Reading.{set_in, positions_of, positions_in, joined_position}
+use Rattle.definitions.specs.Lists.{tabulate}
+use Rattle.definitions.specs.Reading.{mark_at, marks_in, positions_of, positions_in, joined_position}
 use Rattle.definitions.specs.Text.{ascii, decimal}
 use Rattle.definitions.specs.Listing.{title_line, set_line}
 use Rattle.definitions.proofs.Bools.{bool_cases}
-use Rattle.definitions.proofs.Reading.{marks_count, marks-drop}
-use Rattle.lists.specs.Written.{Fits, Written}
 use Rattle.text.specs.Bytes.{space}
-use Rattle.lists.proofs.Writing.{Writing, starts, rest_as, fits_next, turns, ends}
-use Rattle.listing.specs.Lines.{position_text, positions_text, record_line}
+use Rattle.listing.specs.Lines.{positions_text, record_line}
 use Rattle.listing.proofs.Fields.{line_next}
 
 -- ---- positions
 
-module _ (bit p : ℕ) where
-  pub position_text_lem : bit ≡ 1 → position_text bit p ≡ decimal p ++ (space ∷ [])
-  position_text_lem h = rw (eq-eqb bit 1 h)
+-- a position and a space where it is marked, and nothing where it isn't
+abbrev pub position_text : Bool → ℕ → List ℕ
+position_text mark p = cond mark (decimal p ++ (space ∷ [])) []
 
-  pub position_length : bit ≡ 1 → length (position_text bit p) ≡ length (decimal p) + 1
-  position_length h = ap length (position_text_lem h) ∙ length-append (decimal p) (space ∷ [])
+position_first : (mark : Bool) (p : ℕ) (set : List Bool)
+    → positions_text (positions_of p (mark ∷ set)) ≡ position_text mark p ++ positions_text (positions_of (suc p) set)
+unfolding positions_text positions_of
+position_first mark p set =
+    bool_cases mark
+    (λ q. rw q (sym (append_assoc (decimal p) (space ∷ []) (positions_text (positions_of (suc p) set)))))
+    (λ q. rw q refl)
 
-  pub no_position : (bit ≡ 1 → ⊥) → position_text bit p ≡ []
-  no_position h = rw (ne_eqb bit 1 h)
+-- of n positions from q on
+positions_each : (n q : ℕ) (mark : ℕ → Bool) (text : ℕ → List ℕ) → ((p : ℕ) → text p ≡ position_text (mark p) (q + p))
+    → positions_text (positions_of q (tabulate n mark)) ≡ flatten (tabulate n text)
+unfolding tabulate flatten positions_text positions_of
+positions_each zero q mark text h = refl
+positions_each (suc n) q mark text h =
+    let first : position_text (mark 0) q ≡ text 0 = ap (position_text (mark 0)) (omega arith) ∙ sym (h 0) in
+    position_first (mark 0) q (tabulate n (λ p. mark (suc p)))
+    ∙ ap (λ (l : List ℕ). position_text (mark 0) q ++ l) (positions_each n (suc q) (λ p. mark (suc p)) (λ p. text (suc p))
+    (λ p. h (suc p) ∙ ap (position_text (mark (suc p))) (omega arith)))
+    ∙ ap (λ (l : List ℕ). l ++ flatten (tabulate n (λ p. text (suc p)))) first
 
-  position_step : (s : List Bool)
-      → positions_text (positions_of p (eqb bit 1 ∷ s)) ≡ position_text bit p ++ positions_text (positions_of (suc p) s)
-  unfolding positions_text positions_of
-  position_step s =
-      bool_cases (eqb bit 1)
-      (λ q. rw q (sym (append_assoc (decimal p) (space ∷ []) (positions_text (positions_of (suc p) s)))))
-      (λ q. rw q refl)
+-- of a record
+abbrev pub record_position : List ℕ → ℕ → List ℕ
+record_position words p = position_text (mark_at words p) p
 
--- the positions of a record from p on
-abbrev pub positions_from : List ℕ → ℕ → List ℕ
-positions_from words p = positions_text (positions_of p (drop p (set_in mark_words words)))
+module _ (words : List ℕ) (p bit : ℕ) (e : bit ≡ get_or words (p / marks_per_word) 0 / 2 ^ (p % marks_per_word) % 2) where
+  pub marked : bit ≡ 1 → record_position words p ≡ decimal p ++ (space ∷ [])
+  marked h = ap (λ (mark : Bool). position_text mark p) (eq-eqb _ 1 (sym e ∙ h))
 
--- those before p are written
-pub record PositionsWritten (words b : List ℕ) (at p : ℕ) (m : List ℕ) (mid : ℕ) : Type 0 where
-  pub count : p ≤ marks_per_word * mark_words
-  pub writing : Writing b at (positions_text (positions_in mark_words words)) (positions_from words p) m mid
+  pub unmarked : (bit ≡ 1 → ⊥) → record_position words p ≡ []
+  unmarked h = ap (λ (mark : Bool). position_text mark p) (ne_eqb _ 1 (λ q. h (e ∙ q)))
 
-pub positions_start : (words b : List ℕ) (at : ℕ) → Fits b at (positions_text (positions_in mark_words words)) → PositionsWritten words b at 0 b at
-positions_start words b at h = record { count = omega arith; writing = starts b at (positions_text (positions_in mark_words words)) h }
-
-module _ {words b m : List ℕ} {at p mid : ℕ} (w : PositionsWritten words b at p m mid) where
-  module _ (bit : ℕ) (h : p < marks_per_word * mark_words) (e : bit ≡ get_or words (p / marks_per_word) 0 / 2 ^ (p % marks_per_word) % 2) where
-    next_position : Writing b at (positions_text (positions_in mark_words words)) (position_text bit p ++ positions_from words (p + 1)) m mid
-    next_position =
-        let rest : List Bool = drop (p + 1) (set_in mark_words words) in
-        rest_as
-        (ap (λ (s : List Bool). positions_text (positions_of p s)) (marks-drop (marks_per_word * mark_words) words p h)
-        ∙ ap (λ (x : ℕ). positions_text (positions_of p (eqb x 1 ∷ rest))) (sym e)
-        ∙ position_step bit p rest
-        ∙ ap (λ (k : ℕ). position_text bit p ++ positions_text (positions_of k rest)) (sym (add-one p)))
-        w.writing
-
-    pub position_fits : Fits m mid (position_text bit p)
-    position_fits = fits_next (position_text bit p) (positions_from words (p + 1)) next_position
-
-    pub position_turn : {a : List ℕ} {end : ℕ} → Written m mid (position_text bit p) a end → PositionsWritten words b at (p + 1) a end
-    position_turn q = record { count = omega arith; writing = turns (positions_from words (p + 1)) next_position q }
-
-  pub positions_end : marks_per_word * mark_words ≤ p → Written b at (positions_text (positions_in mark_words words)) m mid
-  unfolding positions_text positions_of
-  positions_end h =
-      ends (rest_as (ap (λ (s : List Bool). positions_text (positions_of p s))
-      (drop_of_length-le (set_in mark_words words) {i = p} (omega (arith, marks_count (marks_per_word * mark_words) words)))) w.writing)
+pub record_positions : (words : List ℕ)
+    → positions_text (positions_in mark_words words) ≡ flatten (tabulate (marks_per_word * mark_words) (record_position words))
+unfolding marks_in
+record_positions words =
+    positions_each (marks_per_word * mark_words) 0 (mark_at words) (record_position words) (λ p. ap (position_text (mark_at words p)) (omega arith))
 
 -- ---- the line
 

@@ -1,5 +1,5 @@
 -- Texts of words: the lines of a table in a buffer, and those of a set list.
-use Rattle.std.specs.Prelude.{ℕ, ◌+◌, ◌*◌, ◌≤◌, cond, eqb, length, drop}
+use Rattle.std.specs.Prelude.{ℕ, ◌+◌, ◌*◌, ◌≤◌, length, drop}
 use mathlib.Core.List.{List, [], ◌∷◌, ◌++◌, map, flatten}
 use Rattle.definitions.specs.Limits.{set_width, mark_words}
 use Rattle.definitions.specs.Image.{column_count, image_ids, cell_words, rows_in}
@@ -41,7 +41,3 @@ list_lines list n = records_lines (drop 1 list) n
 unfoldable pub positions_text : List ℕ → List ℕ
 positions_text [] = []
 positions_text (position ∷ positions) = decimal position ++ (space ∷ positions_text positions)
-
--- the position and a space where its bit is 1, and nothing where it is 0
-abbrev pub position_text : ℕ → ℕ → List ℕ
-position_text bit position = cond (eqb bit 1) (decimal position ++ (space ∷ [])) []

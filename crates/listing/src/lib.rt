@@ -1,11 +1,10 @@
-// The lines of the program `fuse` of document 01. Each function writes lines into a lent buffer from byte `at` on, and answers where they
-// end; every other byte stays as it was.
+// The lines of the program `fuse` of document 01, each behind what a writer has written so far.
 #![tactic(auto)]
 
 mod lines;
 mod sets;
 mod tables;
 
-pub use lines::{ragged_line, refused_line};
+pub use lines::{ragged_line, refusal_line, refused_line};
 pub use sets::sets_lines;
-pub use tables::{fused_lines, minimum_lines, union_lines};
+pub use tables::{table_lines, union_lines};

@@ -1,85 +1,58 @@
 // Single lines: fields with a space between them, and byte 10 at the end.
-ghost use Rattle.std.specs.Prelude.{◌+◌, ◌≤◌, ◌∷◌, map, length};
-ghost use Rattle.definitions.specs.Word.{id_of};
-ghost use Rattle.definitions.specs.Text.{id_text};
-ghost use Rattle.definitions.specs.Listing.{columns_line, title_line, row_line, ragged_line, refused_line};
-ghost use Rattle.lists.specs.Written.{Fits, Written};
-ghost use Rattle.text.specs.Bytes.{space};
+ghost use Rattle.std.specs.Prelude.{◌∷◌, map};
+ghost use Rattle.definitions.specs.Listing.{line, row_line, ragged_line, refused_line};
+ghost use Rattle.definitions.specs.Refusal.{question_number, table_number};
+ghost use Rattle.text.specs.Writer.{HasRoom, Wrote};
 
-use text::{
-    NEWLINE, next_cell, next_number, number_field, put_byte, put_cell, put_text, text_field,
-};
+use definitions::Refusal;
+use text::{Cell, Number, Style, Writer};
 
-// A title line: a word and numbers.
-pub(crate) fn title_line(title: &[u8], numbers: &[usize], out: &mut [u8], at: usize) -> usize
-    requires { Fits out.old at (title_line title.now numbers.now) }
-    ensures { Written out.old at
-        (title_line title.now numbers.now) out.new result }
+// The line of a title and values.
+pub(crate) fn line<S: Style>(title: &[u8], values: &[S::Value], out: &mut Writer)
+    requires { HasRoom out.old (line (title.now ∷ map S.shown values.now)) }
+    ensures { Wrote out.old (line (title.now ∷ map S.shown values.now)) out.new }
 {
-    let mut end = put_text(title, out, at);
-    let mut i = 0;
-    while i < numbers.len() {
-        end = next_number(numbers[i], out, end);
-        i += 1;
-    }
-    put_byte(NEWLINE, out, end)
-}
-
-// A space, and then the id of a column word.
-fn next_id(column: u32, out: &mut [u8], at: usize) -> usize
-    requires { at + 1 + length (id_text column) ≤ length out.old }
-    ensures { Written out.old at (space ∷ id_text column) out.new result }
-{
-    next_number(words::id(column) as usize, out, at)
-}
-
-// The columns' line: the ids of the column words.
-pub(crate) fn columns_line(columns: &[u32], out: &mut [u8], at: usize) -> usize
-    requires { Fits out.old at (columns_line (map id_of columns.now)) }
-    ensures { Written out.old at
-        (columns_line (map id_of columns.now)) out.new result }
-{
-    let mut end = put_text(b"columns", out, at);
-    let mut i = 0;
-    while i < columns.len() {
-        end = next_id(columns[i], out, end);
-        i += 1;
-    }
-    put_byte(NEWLINE, out, end)
+    out.text(title);
+    out.fields::<S>(values);
+    out.newline();
 }
 
 // A row's line: its cells.
-pub(crate) fn row_line(cells: &[u32], out: &mut [u8], at: usize) -> usize
-    requires { Fits out.old at (row_line cells.now) }
-    ensures { Written out.old at (row_line cells.now) out.new result }
+pub(crate) fn row_line(cells: &[u32], out: &mut Writer)
+    requires { HasRoom out.old (row_line cells.now) }
+    ensures { Wrote out.old (row_line cells.now) out.new }
 {
-    if cells.len() == 0 {
-        return put_byte(NEWLINE, out, at);
-    }
-    let mut end = put_cell(cells[0], out, at);
-    let mut i = 1;
-    while i < cells.len() {
-        end = next_cell(cells[i], out, end);
-        i += 1;
-    }
-    put_byte(NEWLINE, out, end)
+    let [first, rest @ ..] = cells else {
+        return out.newline();
+    };
+    Cell::put(*first, out);
+    out.fields::<Cell>(rest);
+    out.newline();
 }
 
-// The line of a file whose bytes make no whole number of words: `ragged`, and then its name as a title without numbers.
-pub fn ragged_line(name: &[u8], out: &mut [u8], at: usize) -> usize
-    requires { Fits out.old at (ragged_line name.now) }
-    ensures { Written out.old at (ragged_line name.now) out.new result }
+// The line of a file whose bytes make no whole number of words: `ragged`, and then its name as a title without values.
+pub fn ragged_line(name: &[u8], out: &mut Writer)
+    requires { HasRoom out.old (ragged_line name.now) }
+    ensures { Wrote out.old (ragged_line name.now) out.new }
 {
-    let end = text_field(b"ragged", out, at);
-    title_line(name, &[], out, end)
+    out.text(b"ragged ");
+    line::<Number>(name, &[], out);
 }
 
-// The line of a refusal: its number, and then the title `table` with its table.
-pub fn refused_line(number: u32, table: u32, out: &mut [u8], at: usize) -> usize
-    requires { Fits out.old at (refused_line number table) }
-    ensures { Written out.old at (refused_line number table) out.new result }
+// The line of a refusal's number, and then the title `table` with its table.
+pub fn refused_line(number: u32, table: u32, out: &mut Writer)
+    requires { HasRoom out.old (refused_line number table) }
+    ensures { Wrote out.old (refused_line number table) out.new }
 {
-    let mut end = text_field(b"refused", out, at);
-    end = number_field(number as usize, out, end);
-    title_line(b"table", &[table as usize], out, end)
+    out.text(b"refused ");
+    out.number(number as usize);
+    line::<Number>(b" table", &[table as usize], out);
+}
+
+// The line of a refusal.
+pub fn refusal_line(refusal: Refusal, out: &mut Writer)
+    requires { HasRoom out.old (refused_line (question_number refusal.question) (table_number refusal.subject)) }
+    ensures { Wrote out.old (refused_line (question_number refusal.question) (table_number refusal.subject)) out.new }
+{
+    refused_line(refusal.question.number(), refusal.subject.number(), out);
 }

@@ -1,16 +1,15 @@
 -- The counts of filled cells, written row after row, and the rows with a larger count, count after count. Assumes nothing.
-use mathlib.Core.Path.{◌≡◌, refl, sym, ◌∙◌, ap, subst}
+use mathlib.Core.Path.{◌≡◌, refl, sym, ◌∙◌, ap, ap₂, subst}
 use mathlib.Core.Bool.{true}
 use mathlib.Core.Logic.{⊎_elim}
-use mathlib.Core.List.{List, [], map}
+use mathlib.Core.List.{List, [], ◌∷◌, ◌++◌, map, map-append}
 use Prim.Native.Nat.{ℕ, zero, suc, ◌+◌, ◌-◌, ◌*◌, ◌%◌, ◌^◌, ◌<◌, ◌≤◌}
-use native.Mathlib.Nat.{zero-add}
 use native.Mathlib.Numerals.{add-one}
 use native.Mathlib.Omega.{arith}
 use lib.Bits.{bit_or}
 use lib.Dec.{eqb}
 use lib.ListN.{length, get_or, set, take, drop, length-map, length-set, length-take, get_or-map}
-use lib.Seq.{get_or-set_same, get_or-set_other}
+use lib.Seq.{take-suc-set, get_or-set_same, get_or-set_other}
 use borrow.Author.Tests.{eqb-true, eqb-false}
 use Rattle.definitions.proofs.Images.{rows_length}
 use Rattle.definitions.specs.Limits.{max_columns}
@@ -19,35 +18,21 @@ use Rattle.definitions.specs.MinimumUnion.{filled}
 use Rattle.definitions.proofs.Bools.{bool_cases, clash, or_cases}
 use Rattle.definitions.proofs.Lists.{below_cases}
 use Rattle.definitions.proofs.Subsumption.{filled-empties}
-use Rattle.lists.proofs.Flat.{rows_at_lem, part_row}
-use Rattle.lists.proofs.Pastes.{Pasted, paste_turn, paste_all, paste_front}
+use Rattle.lists.proofs.Flat.{part_row}
+use Rattle.patterns.proofs.Parts.{rows_snoc}
 use Rattle.bitsets.specs.Bits.{has, with_row, word_bits}
 use Rattle.bitsets.proofs.Bits.{bit_at, has-or, has_none, has_with_self, has_with_old, has_with_cases, or_in_l, or_in_r}
-use Rattle.minimum.specs.Candidates.{EqualTo, FullerThan}
+use Rattle.minimum.specs.Candidates.{EqualTo}
 
 -- ---- the counts
 
--- the counts of the first i rows stand in cur, which was found
-abbrev pub CountsTo : ℕ → ℕ → List ℕ → List ℕ → ℕ → List ℕ → Type 0
-CountsTo c n w found i cur = Pasted found 0 (map filled (rows_in c n w)) i cur
-
-module _ (c n : ℕ) (w found : List ℕ) (room : n ≤ length found) where
-  counts_length : length (map filled (rows_in c n w)) ≡ n
-  counts_length = length-map (rows_in c n w) filled ∙ rows_length c n w
-
-  pub counts_turn : (i at : ℕ) (cur : List ℕ) (count : ℕ) → i < n → at ≡ i * c → CountsTo c n w found i cur
-      → count ≡ filled (take (at + c - at) (drop at w)) → CountsTo c n w found (i + 1) (set cur i count)
-  unfolding filled
-  counts_turn i at cur count more here p e =
-      let l = counts_length in
-      let row : take (at + c - at) (drop at w) ≡ get_or (rows_in c n w) i [] =
-      part_row c at w ∙ ap (λ (k : ℕ). take c (drop k w)) here ∙ sym (rows_at_lem c n i w more) in
-      paste_turn found 0 (map filled (rows_in c n w)) i i cur 0 count p (sym (zero-add i)) (omega arith) (omega arith)
-      (e ∙ ap filled row ∙ sym (get_or-map filled (rows_in c n w) i []))
-
-  pub counts_end : (i : ℕ) (cur : List ℕ) → CountsTo c n w found i cur → i ≡ n → take n cur ≡ map filled (rows_in c n w)
-  counts_end i cur p e =
-      paste_front found (map filled (rows_in c n w)) cur n counts_length (paste_all found 0 (map filled (rows_in c n w)) i n cur p e)
+-- the count of the next row is written
+pub counts_turn : (c i : ℕ) (w counts : List ℕ) (count : ℕ) → i < length counts → take i counts ≡ map filled (rows_in c i w)
+    → count ≡ filled (take (i * c + c - i * c) (drop (i * c) w)) → take (i + 1) (set counts i count) ≡ map filled (rows_in c (i + 1) w)
+counts_turn c i w counts count there inv e =
+    rw (add-one i) (take-suc-set counts i count there)
+    ∙ ap₂ (λ (l : List ℕ) (x : ℕ). l ++ (x ∷ [])) inv (e ∙ ap filled (part_row c (i * c) w))
+    ∙ sym (ap (map filled) (rows_snoc c i w) ∙ map-append filled (rows_in c i w) (take c (drop (i * c) w) ∷ []))
 
 row_short : (c n : ℕ) (w : List ℕ) (j : ℕ) → length (get_or (rows_in c n w) j []) ≤ c
 row_short c zero w j = omega arith
@@ -199,9 +184,3 @@ module _ (counts found : List ℕ) (small : (j : ℕ) → get_or counts j 0 < le
           (λ g. let o = equal.only at j (sym (ap (λ (x : ℕ). has x j) at_own) ∙ g) in (o.0, omega (arith, o.1)))
           (or_cases (has fuller j) (has (get_or words at 0) j) (sym (has-or fuller (get_or words at 0) j) ∙ h));
     }
-
-  pub fuller_end : (k fuller : ℕ) (words : List ℕ) → k ≤ 0 → FullerFrom counts found k fuller words → FullerThan counts words
-  fuller_end k fuller words h inv = record {
-    held = λ i j g l. inv.held i j (omega arith) g l;
-    only = λ i j g. inv.only i j (omega arith) g;
-  }

@@ -15,7 +15,7 @@ use Rattle.definitions.specs.MinimumUnion.{subsumes, minimum_rows, pairs_tried}
 use Rattle.definitions.proofs.Lists.{keep_took, filter_left}
 use Rattle.lists.proofs.Flat.{rows_at_lem}
 use Rattle.rows.specs.Indices.{row_at, rows_at, Below}
-use Rattle.minimum.specs.Trying.{tries_at, TriedRow, KeptRows}
+use Rattle.minimum.specs.Trying.{is_subsumed, tries_at, KeptRows}
 
 below_snoc : (n x : ℕ) (l : List ℕ) → Below n l → x < n → Below n (l ++ (x ∷ []))
 below_snoc n x [] b h = (h, tt)
@@ -38,14 +38,12 @@ unfolding filter sum_below
 kept_none c n w indices = record { count = omega arith; below = tt; rows = refl; tried = refl; bound = omega arith }
 
 module _ {c n : ℕ} {w indices : List ℕ} {m pairs k : ℕ} (inv : KeptTo c n w indices m pairs k) where
-  -- row k has been tried
-  module _ (few : n ≤ max_union_rows) (more : k < n) {subsumed : Bool} {p : ℕ} (told : TriedRow (rows_in c n w) k subsumed p) where
-    fewer : p < n
-    fewer = omega (arith, told.fewer, rows_length c n w)
-
+  -- row k has been tried: so many pairs, and whether it is subsumed
+  module _ (few : n ≤ max_union_rows) (more : k < n) {p : ℕ} (tried : p ≡ tries_at (rows_in c n w) k) (fewer : p ≤ n) {subsumed : Bool}
+      (found : subsumed ≡ is_subsumed (rows_in c n w) k) where
     sum_more : pairs + p ≡ sum_below (k + 1) (tries_at (rows_in c n w))
     unfolding sum_below
-    sum_more = ap₂ ◌+◌ inv.tried told.tried ∙ rw (add-one k)
+    sum_more = ap₂ ◌+◌ inv.tried tried ∙ rw (add-one k)
 
     bound_more : pairs + p ≤ (k + 1) * max_union_rows
     bound_more = omega (arith, inv.bound, fewer)
@@ -57,7 +55,7 @@ module _ {c n : ℕ} {w indices : List ℕ} {m pairs k : ℕ} (inv : KeptTo c n 
     subsumed_left s = record {
       count = omega (arith, inv.count);
       below = inv.below;
-      rows = inv.rows ∙ sym (filter_left (stays (rows_in c n w)) [] (rows_in c n w) k within (ap not (sym told.found ∙ s)));
+      rows = inv.rows ∙ sym (filter_left (stays (rows_in c n w)) [] (rows_in c n w) k within (ap not (sym found ∙ s)));
       tried = sum_more;
       bound = bound_more;
     }
@@ -72,7 +70,7 @@ module _ {c n : ℕ} {w indices : List ℕ} {m pairs k : ℕ} (inv : KeptTo c n 
           rows = ap (rows_at c w) t
               ∙ map-append (row_at c w) (take m indices) (k ∷ [])
               ∙ ap₂ (λ (r : List (List ℕ)) (l : List ℕ). r ++ (l ∷ [])) inv.rows (sym (rows_at_lem c n k w more))
-              ∙ sym (keep_took (stays (rows_in c n w)) [] (rows_in c n w) k within (ap not (sym told.found ∙ s)));
+              ∙ sym (keep_took (stays (rows_in c n w)) [] (rows_in c n w) k within (ap not (sym found ∙ s)));
           tried = sum_more;
           bound = bound_more;
         }

@@ -1,9 +1,11 @@
 -- The other rows than that at position k, and how many of them are tried: all, or those up to the first that subsumes. Assumes nothing.
-use mathlib.Core.Path.{◌≡◌, refl, ◌∙◌, ap}
-use mathlib.Core.Bool.{true, false}
+use mathlib.Core.Path.{◌≡◌, refl, sym, ◌∙◌, ap}
+use Rattle.std.specs.Prelude.{Option, Some, None, is_some}
+use mathlib.Core.Bool.{true}
 use mathlib.Core.List.{List, [], ◌∷◌}
 use Prim.Native.Nat.{ℕ, zero, suc, ◌+◌, ◌-◌, ◌<◌, ◌≤◌}
 use native.Mathlib.Nat.{le_of_suc-le-suc, not-suc-le-zero}
+use native.Mathlib.Numerals.{add-one}
 use native.Mathlib.Omega.{arith}
 use lib.ListN.{length, get_or, take, drop, get_or-append}
 use lib.Seq.{get_or-take, get_or-drop, get_or-append-add, length-take-le}
@@ -11,7 +13,10 @@ use lib.Dec.{ltb}
 use borrow.Author.Tests.{ltb-true, ltb-false}
 use Rattle.definitions.specs.Lists.{without}
 use Rattle.definitions.specs.MinimumUnion.{subsumes, tries}
-use Rattle.definitions.proofs.Bools.{bool_cases}
+use Rattle.definitions.proofs.Bools.{bool_cases, clash}
+use Rattle.minimum.specs.Trying.{NoneBefore, FirstSubsumer, is_subsumed, tries_at}
+use Rattle.definitions.proofs.Lists.{member-get, member_at, any_of, any_none}
+use Rattle.definitions.proofs.Subsumption.{subsumes_self}
 use Rattle.definitions.proofs.Counts.{without-length}
 
 -- ---- a list without what stands at index k
@@ -35,16 +40,12 @@ module _ {A : Type 0} (d : A) (k : ℕ) (l : List A) (within : k < length l) whe
 -- ---- the trying of t
 
 module _ (t : List ℕ) where
-  -- no row before j subsumes t
-  abbrev pub NoneBefore : List (List ℕ) → ℕ → Type 0
-  NoneBefore rows j = (i : ℕ) → i < j → subsumes (get_or rows i []) t ≡ false
-
-  tries-all : (rows : List (List ℕ)) → NoneBefore rows (length rows) → tries t rows ≡ length rows
+  tries-all : (rows : List (List ℕ)) → NoneBefore t rows (length rows) → tries t rows ≡ length rows
   unfolding tries
   tries-all [] p = refl
   tries-all (s ∷ rows) p = rw (p 0 (omega arith)) (ap suc (tries-all rows (λ i h. p (suc i) (omega arith))))
 
-  tries_to : (rows : List (List ℕ)) (j : ℕ) → NoneBefore rows j → j < length rows → subsumes (get_or rows j []) t ≡ true → tries t rows ≡ suc j
+  tries_to : (rows : List (List ℕ)) (j : ℕ) → NoneBefore t rows j → j < length rows → subsumes (get_or rows j []) t ≡ true → tries t rows ≡ suc j
   unfolding tries
   tries_to [] j p h e = absurd (not-suc-le-zero h)
   tries_to (s ∷ rows) zero p h e = rw e
@@ -59,19 +60,19 @@ module _ (t : List ℕ) where
     after : (i : ℕ) → k ≤ i → subsumes (get_or (without k rows) i []) t ≡ subsumes (get_or rows (suc i) []) t
     after i h = ap (λ (s : List ℕ). subsumes s t) (without_after [] k rows within i h)
 
-    passed_others : (j : ℕ) → NoneBefore rows (suc j) → NoneBefore (without k rows) j
+    passed_others : (j : ℕ) → NoneBefore t rows (suc j) → NoneBefore t (without k rows) j
     passed_others j p i g =
         bool_cases (ltb i k)
         (λ e. before i (ltb-true i k e) ∙ p i (omega arith))
         (λ e. after i (ltb-false i k e) ∙ p (suc i) (omega arith))
 
-    pub others_all : NoneBefore rows (length rows) → tries t (without k rows) ≡ length rows - 1
+    pub others_all : NoneBefore t rows (length rows) → tries t (without k rows) ≡ length rows - 1
     others_all p =
         let o = without-length k rows within in
         tries-all (without k rows) (passed_others (length (without k rows)) (λ i h. p i (omega arith))) ∙ o
 
     -- the first row that subsumes t stands at j
-    module _ (j : ℕ) (h : j < length rows) (p : NoneBefore rows j) (e : subsumes (get_or rows j []) t ≡ true) where
+    module _ (j : ℕ) (h : j < length rows) (p : NoneBefore t rows j) (e : subsumes (get_or rows j []) t ≡ true) where
       pub others_before : j < k → tries t (without k rows) ≡ suc j
       others_before g =
           tries_to (without k rows) j (λ i f. before i (omega arith) ∙ p i f) (omega (arith, without-length k rows within)) (before j g ∙ e)
@@ -81,3 +82,26 @@ module _ (t : List ℕ) where
           let o = without-length k rows within in
           let q : suc (j - 1) ≡ j = omega arith in
           tries_to (without k rows) (j - 1) (passed_others (j - 1) (rw q p)) (omega arith) (after (j - 1) (omega arith) ∙ rw q e) ∙ q
+
+-- ---- what the trying of row k finds
+
+pub found_some : (rows : List (List ℕ)) (k : ℕ) (s : Option ℕ) → FirstSubsumer rows k s → is_some s ≡ is_subsumed rows k
+found_some rows k None p =
+    sym (any_none (λ s. subsumes s (get_or rows k [])) rows (λ s g.
+    let i = member_at [] s rows g in
+    ap (λ (u : List ℕ). subsumes u (get_or rows k [])) (sym i.2) ∙ p i.0 i.1))
+found_some rows k (Some j) p = sym (any_of (λ s. subsumes s (get_or rows k [])) (get_or rows j []) rows (member-get [] rows j p.0) p.2)
+
+module _ (rows : List (List ℕ)) (k : ℕ) (within : k < length rows) where
+  pub tries_none : FirstSubsumer rows k None → length rows - 1 ≡ tries_at rows k
+  tries_none p = sym (others_all (get_or rows k []) rows k within p)
+
+  module _ (j : ℕ) (p : FirstSubsumer rows k (Some j)) where
+    other_row : j ≡ k → ⊥
+    other_row e = clash p.2 (ap (λ (i : ℕ). subsumes (get_or rows i []) (get_or rows k [])) e ∙ subsumes_self (get_or rows k []))
+
+    pub tries_before : j < k → j + 1 ≡ tries_at rows k
+    tries_before h = add-one j ∙ sym (others_before (get_or rows k []) rows k within j p.0 p.1 p.2 h)
+
+    pub tries_after : k ≤ j → j ≡ tries_at rows k
+    tries_after h = sym (others_after (get_or rows k []) rows k within j p.0 p.1 p.2 (omega (arith, other_row)))

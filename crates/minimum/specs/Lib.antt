@@ -1,3 +1,4 @@
 -- The trying of minimum union.
 pub mod Trying
 pub mod Candidates
+pub mod Trials

@@ -1,5 +1,5 @@
--- What the trying of one row gives; what the trying of all rows is given, and what it gives: the indices of the rows that stay, and the pairs tried.
-use Rattle.std.specs.Prelude.{◌≡◌, Bool, List, [], ℕ, ◌*◌, ◌≤◌, ◌<◌, length, get_or, take}
+-- What the trying of one row finds; what the trying of all rows is given, and what it gives: the indices of the rows that stay, and the pairs tried.
+use Rattle.std.specs.Prelude.{◌≡◌, Bool, true, false, Option, Some, None, List, [], ℕ, ◌*◌, ◌≤◌, ◌<◌, length, get_or, take}
 use Rattle.definitions.specs.Limits.{max_columns, max_union_rows}
 use Rattle.definitions.specs.Lists.{any, without}
 use Rattle.definitions.specs.Image.{rows_in}
@@ -14,11 +14,15 @@ is_subsumed rows k = any (λ s. subsumes s (get_or rows k [])) rows
 abbrev pub tries_at : List (List ℕ) → ℕ → ℕ
 tries_at rows k = tries (get_or rows k []) (without k rows)
 
--- row k has been tried
-pub record TriedRow (rows : List (List ℕ)) (k : ℕ) (subsumed : Bool) (pairs : ℕ) : Type 0 where
-  pub found : subsumed ≡ is_subsumed rows k
-  pub tried : pairs ≡ tries_at rows k
-  pub fewer : pairs < length rows
+-- no row before j subsumes t
+abbrev pub NoneBefore : List ℕ → List (List ℕ) → ℕ → Type 0
+NoneBefore t rows j = (i : ℕ) → i < j → subsumes (get_or rows i []) t ≡ false
+
+-- the first of the rows that subsumes row k is named, or none does
+abbrev pub FirstSubsumer : List (List ℕ) → ℕ → Option ℕ → Type 0
+FirstSubsumer rows k None = NoneBefore (get_or rows k []) rows (length rows)
+FirstSubsumer rows k (Some j) =
+    (j < length rows) × NoneBefore (get_or rows k []) rows j × (subsumes (get_or rows j []) (get_or rows k []) ≡ true)
 
 -- n rows of c cells, no more than a table has, and room for their indices
 pub record Untried (c n : ℕ) (w indices : List ℕ) : Type 0 where

@@ -11,10 +11,8 @@ pub(crate) fn for_row(row: &[u32], fuller: u64, columns: &[u64]) -> u64
     ensures { Candidates row.now fuller columns.now result }
 {
     let mut set = fuller;
-    let mut c = 0;
-    while c < row.len() {
-        set = set & (columns[c] | blank(row[c]));
-        c += 1;
+    for (cell, filled) in row.iter().zip(columns) {
+        set &= *filled | blank(*cell);
     }
     set
 }

@@ -1,23 +1,19 @@
 // The filled cells of each row, counted once and not for each pair, and for each count the rows that have more.
-ghost use Rattle.std.specs.Prelude.{◌≡◌, map, ℕ, ◌*◌, ◌≤◌, ◌<◌, length, get_or, take};
+ghost use Rattle.std.specs.Prelude.{◌≡◌, map, ℕ, ◌*◌, ◌≤◌, ◌<◌, length, get_or};
 ghost use Rattle.definitions.specs.Limits.{max_columns};
 ghost use Rattle.definitions.specs.Image.{rows_in};
 ghost use Rattle.definitions.specs.MinimumUnion.{filled};
 ghost use Rattle.minimum.specs.Candidates.{EqualTo, FullerThan};
 ghost use Rattle.bitsets.specs.Bits.{word_bits};
 
-// Writes the filled cells of each of the first n rows over the first n counts.
-pub(crate) fn fill_counts(cells: &[u32], n: usize, width: usize, counts: &mut [u32])
-    requires { (width ≤ max_columns) × (n * width ≤ length cells.now) × (n ≤ length counts.old) }
-    ensures { take n counts.new ≡ map filled (rows_in width n cells.now) }
+// Writes the filled cells of each row, a count for each. A row may be without cells, which `chunks_exact` would refuse.
+pub(crate) fn fill_counts(cells: &[u32], width: usize, counts: &mut [u32])
+    requires { (width ≤ max_columns) × (length counts.old * width ≤ length cells.now) }
+    ensures { counts.new ≡ map filled (rows_in width (length counts.new) cells.now) }
 {
-    let mut i = 0;
-    let mut at = 0;
-    while i < n {
-        let next = at + width;
-        counts[i] = patterns::count_filled(&cells[at..next]);
-        at = next;
-        i += 1;
+    for (i, count) in counts.iter_mut().enumerate() {
+        let at = i * width;
+        *count = patterns::count_filled(&cells[at..at + width]);
     }
 }
 
@@ -27,11 +23,8 @@ fn rows_by_count(counts: &[u32], words: &mut [u64])
     requires by_index { (k : ℕ) → get_or words.old k 0 ≡ 0 }
     ensures { EqualTo counts.now (length counts.now) words.new }
 {
-    let mut j = 0;
-    while j < counts.len() {
-        let k = counts[j] as usize;
-        words[k] = words[k] | (1u64 << j);
-        j += 1;
+    for (j, count) in counts.iter().enumerate() {
+        words[*count as usize] |= 1u64 << j;
     }
 }
 
@@ -44,11 +37,9 @@ pub(crate) fn fill_fuller(counts: &[u32], words: &mut [u64])
 {
     rows_by_count(counts, words);
     let mut fuller = 0;
-    let mut k = words.len();
-    while 0 < k {
-        k -= 1;
+    for k in (0..words.len()).rev() {
         let equal = words[k];
         words[k] = fuller;
-        fuller = fuller | equal;
+        fuller |= equal;
     }
 }

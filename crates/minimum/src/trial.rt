@@ -1,76 +1,98 @@
-// The trying of one row with the other rows in ascending position, until one subsumes it.
-ghost use Rattle.std.specs.Prelude.{◌≡◌, cond, not, ◌||◌, ◌-◌, ◌<◌, eqb, ltb, length};
+// The trying of rows: each with the other rows in ascending position, until one subsumes it.
+ghost use Rattle.std.specs.Prelude.{◌≡◌, [], not, ◌||◌, ◌≤◌, ◌<◌, eqb, length, get_or};
 ghost use Rattle.definitions.specs.Word.{is_filled};
-ghost use Rattle.definitions.specs.Image.{rows_in};
-ghost use Rattle.minimum.specs.Trying.{TriedRow};
 ghost use Rattle.minimum.specs.Candidates.{Prepared};
 
-use crate::candidates;
+use crate::{Kept, candidates};
 
 // A cell y of the emptier row is empty, or equals the other row's cell x.
 fn covered(x: u32, y: u32) -> bool
     ensures { result ≡ (not (is_filled y) || eqb x y) }
 {
-    if y == 0 {
-        return true;
-    }
-    x == y
+    y == 0 || x == y
 }
 
-// How many of the first rows are others than row k.
-fn others(first: usize, k: usize) -> usize
-    ensures { result ≡ cond (ltb k first) (first - 1) first }
-{
-    if k < first {
-        return first - 1;
-    }
-    first
-}
-
-// Whether some row subsumes row k, and how many pairs are tried for it.
+// The rows of a table, ready to be tried: the filled cells of each, for each count of filled cells the rows that have more, and for each
+// column the rows that are filled there.
 #[derive(Drop)]
-pub(crate) struct Tried {
-    pub subsumed: bool,
-    pub pairs: usize,
+pub(crate) struct Trials<'a> {
+    pub cells: &'a [u32],
+    pub width: usize,
+    pub counts: &'a [u32],
+    pub fuller: &'a [u64],
+    pub columns: &'a [u64],
+    ghost prepared: { Prepared width cells.now counts.now fuller.now columns.now },
 }
 
-// Tries row k. A row that is no candidate counts as tried, but no cell of it is compared. A candidate has more filled cells, and so
-// subsumes row k if all columns are covered.
-pub(crate) fn try_row(
-    cells: &[u32],
-    counts: &[u32],
-    fuller: &[u64],
-    columns: &[u64],
-    width: usize,
-    k: usize,
-) -> Tried
-    requires { (k < length counts.now) × Prepared width cells.now counts.now fuller.now columns.now }
-    ensures { TriedRow (rows_in width (length counts.now) cells.now) k
-        result.subsumed result.pairs }
-{
-    let own = k * width;
-    let own_end = own + width;
-    let count = counts[k] as usize;
-    let mut rest = candidates::for_row(&cells[own..own_end], fuller[count], columns);
-    let mut subsumed = false;
-    let mut looked = counts.len();
-    'rows: while rest != 0 {
-        let j = u64::trailing_zeros(rest) as usize;
-        let at = j * width;
-        let mut c = 0;
-        loop {
-            if c == width {
-                subsumed = true;
-                looked = j + 1;
-                break 'rows;
-            }
-            if !covered(cells[at + c], cells[own + c]) {
-                break;
-            }
-            c += 1;
-        }
-        rest = rest & (rest - 1);
+impl Trials<'_> {
+    ghost use Rattle.minimum.specs.Trials.{rows_of};
+    ghost use Rattle.minimum.specs.Trying.{tries_at, FirstSubsumer, KeptRows};
+
+    // The cells of row k.
+    fn row(&self, k: usize) -> &[u32]
+        requires { k < length self.now.counts.now }
+        ensures { result.now ≡ get_or (rows_of self.now) k [] }
+    {
+        let at = k * self.width;
+        &self.cells[at..at + self.width]
     }
-    let pairs = others(looked, k);
-    Tried { subsumed, pairs }
+
+    // The first row that subsumes row k. No cell is compared of a row that is no candidate. A candidate has more filled cells, and so
+    // subsumes row k if all columns are covered. Two loops that a label leaves are the form that was asked for, in place of `all`.
+    fn subsumer(&self, k: usize) -> Option<usize>
+        requires { k < length self.now.counts.now }
+        ensures { FirstSubsumer (rows_of self.now) k result }
+    {
+        let row = self.row(k);
+        let fuller = self.fuller[self.counts[k] as usize];
+        let mut rest = candidates::for_row(row, fuller, self.columns);
+        'rows: loop {
+            if rest == 0 {
+                break None;
+            }
+            let j = rest.trailing_zeros() as usize;
+            let other = self.row(j);
+            for (c, cell) in row.iter().enumerate() {
+                if !covered(other[c], *cell) {
+                    break;
+                }
+                // The last column is covered too.
+                if c + 1 == row.len() {
+                    break 'rows Some(j);
+                }
+            }
+            rest &= rest - 1;
+        }
+    }
+
+    // The pairs tried for row k: with the other rows up to the first that subsumes it, or with all of them.
+    fn tries(&self, k: usize, subsumer: Option<usize>) -> usize
+        requires { (k < length self.now.counts.now) × FirstSubsumer (rows_of self.now) k subsumer }
+        ensures { (result ≡ tries_at (rows_of self.now) k) × (result ≤ length self.now.counts.now) }
+    {
+        match subsumer {
+            Some(j) if j < k => j + 1,
+            Some(j) => j,
+            None => self.counts.len() - 1,
+        }
+    }
+
+    // Writes the indices of the rows that no row subsumes, ascending.
+    pub fn keep_rows(&self, kept: &mut [u32]) -> Kept
+        requires { length self.now.counts.now ≤ length kept.old }
+        ensures { KeptRows self.now.width (length self.now.counts.now) self.now.cells.now kept.new
+            result.rows result.pairs }
+    {
+        let mut rows = 0;
+        let mut pairs = 0;
+        for k in 0..self.counts.len() {
+            let subsumer = self.subsumer(k);
+            pairs += self.tries(k, subsumer);
+            if subsumer.is_none() {
+                kept[rows] = k as u32;
+                rows += 1;
+            }
+        }
+        Kept { rows, pairs }
+    }
 }

@@ -1,38 +1,39 @@
 // Tables about the ends of a page and of a band.
-use crate::show;
+use crate::show::{self, Shown};
 use std::io;
 
-// 118 rows of 7 columns: two pages for six columns, and two for the seventh.
-fn two_bands(rt: &impl Print) -> io::Result<()> {
-    show::table(rt, 118, 7, 0, 4860, true)?;
-    show::table(rt, 118, 7, 1, 4860, true)?;
-    show::table(rt, 118, 7, 2, 4860, true)?;
-    show::table(rt, 118, 7, 3, 4860, true)
-}
+// Each case: rows, columns, page, and how much of it is shown.
+const CASES: [(u32, u32, u32, Shown); 7] = [
+    // 118 rows of 7 columns: two pages for six columns, and two for the seventh
+    (118, 7, 0, Shown::Whole),
+    (118, 7, 1, Shown::Whole),
+    (118, 7, 2, Shown::Whole),
+    (118, 7, 3, Shown::Whole),
+    // no rows: a page a band
+    (0, 16, 0, Shown::Top),
+    (0, 16, 2, Shown::Whole),
+    (0, 16, 3, Shown::Top),
+];
 
-// No rows: a page a band.
-fn no_rows(rt: &impl Print) -> io::Result<()> {
-    show::table(rt, 0, 16, 0, 4860, false)?;
-    show::table(rt, 0, 16, 2, 4860, true)?;
-    show::table(rt, 0, 16, 3, 4860, false)
-}
+// Each case: rows, columns, and the last page, which is shown with the one behind it.
+const LAST: [(u32, u32, u32); 7] = [
+    (1, 1, 0),
+    (59, 6, 0),
+    (60, 6, 1),
+    (118, 12, 3),
+    (119, 12, 5),
+    (59, 13, 2),
+    (1024, 16, 53),
+];
 
-// The last page, and the one behind it.
-fn last(rt: &impl Print, rows: u32, columns: u32, pages: u32) -> io::Result<()> {
-    if 0 < pages {
-        show::table(rt, rows, columns, pages - 1, 4860, false)?;
+pub(crate) fn run(rt: &(impl Print + AllocGlobal)) -> io::Result<()> {
+    for (rows, columns, page, shown) in CASES {
+        show::page_of(rt, rows, columns, page, 4860, shown)?;
     }
-    show::table(rt, rows, columns, pages, 4860, false)
-}
-
-pub fn run(rt: &impl Print) -> io::Result<()> {
-    two_bands(rt)?;
-    no_rows(rt)?;
-    last(rt, 1, 1, 1)?;
-    last(rt, 59, 6, 1)?;
-    last(rt, 60, 6, 2)?;
-    last(rt, 118, 12, 4)?;
-    last(rt, 119, 12, 6)?;
-    last(rt, 59, 13, 3)?;
-    last(rt, 1024, 16, 54)
+    for (rows, columns, last) in LAST {
+        for page in [last, last.saturating_add(1)] {
+            show::page_of(rt, rows, columns, page, 4860, Shown::Top)?;
+        }
+    }
+    Ok(())
 }

@@ -1,45 +1,30 @@
 // Tables of any size: the cells are numbered row by row. Of ten cells the ninth is the largest number, and the tenth is empty.
 use run_cases::image;
+use std::alloc::{AllocError, Global};
 
 // The cell at an index among the cells.
-fn cell(index: usize) -> u32 {
-    if index % 10 == 9 {
-        return 0;
+fn cell(index: u32) -> u32 {
+    match index % 10 {
+        9 => 0,
+        8 => 0x7fff_ffff,
+        _ => 0x4000_0000 | index % 0x10000,
     }
-    if index % 10 == 8 {
-        return 0x7fff_ffff;
-    }
-    0x4000_0000 | (index % 65536) as u32
 }
 
 // The column word at an index among the columns: ids fall from 65,535 on, and every third column is marked.
-fn column(index: usize) -> u32 {
-    let word = 0x8000_ffff - (index % 16) as u32;
+fn column(index: u32) -> u32 {
+    let word = 0x8000_ffff - index % 16;
     if index % 3 == 1 {
-        return word | 0x2000_0000;
+        word | 0x2000_0000
+    } else {
+        word
     }
-    word
 }
 
-// The word at an index behind the header.
-fn word(index: usize, columns: usize) -> u32 {
-    if index < columns {
-        return column(index);
-    }
-    cell(index - columns)
-}
-
-// Writes a table of so many rows and columns; how many words it has.
-pub fn write(words: &mut [u32], rows: u32, columns: u32) -> usize {
-    let c = (columns % 32) as usize;
-    let size = c + (rows % 4096) as usize * c;
-    image::put(
-        0xc000_0000 | ((rows % 4096) << 18) | (columns % 32),
-        words,
-        0,
-    );
-    for k in 0..size {
-        image::put(word(k, c), words, 1 + k);
-    }
-    1 + size
+// The image of a table of so many rows and columns.
+pub(crate) fn image(alloc: Global, rows: u32, columns: u32) -> Result<Vec<u32>, AllocError> {
+    let cells = rows.saturating_mul(columns);
+    let columns: Vec<u32> = (0..columns).map(column).collect(alloc)?;
+    let cells: Vec<u32> = (0..cells).map(cell).collect(alloc)?;
+    image::of_words(alloc, &columns, &cells)
 }

@@ -1,74 +1,30 @@
--- The words of a band: the part of an image's words that a line shows. Assumes nothing.
-use mathlib.Core.Path.{◌≡◌, refl, sym, ◌∙◌, ap}
-use mathlib.Core.List.{List, []}
-use Prim.Native.Nat.{ℕ, ◌+◌, ◌*◌, ◌-◌, ◌≤◌, ◌<◌, min}
-use native.Mathlib.Omega.{arith}
-use lib.Dec.{leb}
-use lib.ListN.{length, get_or, take, drop, length-take, length-drop}
-use lib.Seq.{take_all, drop-drop}
-use borrow.Author.Tests.{leb-true, leb-false}
-use Rattle.definitions.specs.Limits.{max_stored_rows}
-use Rattle.definitions.specs.Image.{column_count, row_count, column_words, cell_words, image_rows}
-use Rattle.definitions.specs.Claims.{Passed}
-use Rattle.definitions.specs.Page.{band_columns, in_band}
-use Rattle.definitions.proofs.Bools.{bool_cases}
-use Rattle.definitions.proofs.Flat.{part_inside}
-use Rattle.lists.proofs.Flat.{rows_at_lem, row_fits}
+-- The words of a band that a line shows. Assumes nothing.
+use Rattle.std.proofs.Common.{◌≡◌, sym, ◌∙◌, ap, ℕ, Bool, cond, ◌+◌, ◌*◌, ◌-◌, ◌<◌, List, [], map, take, drop, arith}
+use lib.Seq.{drop-drop}
+use borrow.Author.Tests.{lt-ltb}
+use Rattle.definitions.specs.Image.{column_count, row_count, cell_words}
+use Rattle.definitions.specs.Text.{decimal, id_text, cell_text}
+use Rattle.definitions.specs.Page.{in_band, page_line, ids_line, cells_line, line_at}
+use Rattle.lists.proofs.Flat.{rows_at_lem}
 
--- a part of a list that is cut off behind c elements
-part_cut : (a n c : ℕ) (l : List ℕ) → a ≤ c → take n (drop a (take c l)) ≡ take (min (a + n) c - a) (drop a l)
-part_cut a n c l h =
-    bool_cases (leb (a + n) c)
-    (λ q.
-    let size : n ≡ min (a + n) c - a = omega (arith, leb-true (a + n) c q) in
-    part_inside a n c l (leb-true (a + n) c q) ∙ ap (λ (k : ℕ). take k (drop a l)) size)
-    (λ q.
-    let size : c - a ≡ min (a + n) c - a = omega (arith, leb-false (a + n) c q) in
-    let short : length (drop a (take c l)) ≤ c - a = omega (arith, length-drop a (take c l), length-take c l) in
-    take_all n (drop a (take c l)) (omega (arith, leb-false (a + n) c q))
-    ∙ sym (take_all (c - a) (drop a (take c l)) short)
-    ∙ part_inside a (c - a) c l (omega arith)
-    ∙ ap (λ (k : ℕ). take k (drop a l)) size)
+module _ (image : List ℕ) (band k : ℕ) (count : k ≡ column_count image) (words : List ℕ) where
+  -- the line of the ids
+  pub ids_shown : words ≡ in_band band (take (1 + k - 1) (drop 1 image)) → page_line [] (map id_text words) ≡ ids_line image band
+  ids_shown e =
+      let size : 1 + k - 1 ≡ column_count image = omega (arith, count) in
+      ap (λ (l : List ℕ). page_line [] (map id_text l)) (e ∙ ap (λ (n : ℕ). in_band band (take n (drop 1 image))) size)
 
--- the words from one of a row or of the columns on, c of them, in a band
-module _ (words : List ℕ) (from band c start stop : ℕ) (first : start ≡ from + band_columns * band)
-    (last : stop ≡ from + min (band_columns * band + band_columns) c) (within : band_columns * band ≤ c) where
-  pub band_part : take (stop - start) (drop start words) ≡ in_band band (take c (drop from words))
-  band_part =
-      let size : stop - start ≡ min (band_columns * band + band_columns) c - band_columns * band = omega arith in
-      ap (λ (k : ℕ). take k (drop start words)) size
-      ∙ ap (λ (k : ℕ). take (min (band_columns * band + band_columns) c - band_columns * band) (drop k words)) first
-      ∙ ap (take (min (band_columns * band + band_columns) c - band_columns * band)) (sym (drop-drop (band_columns * band) from words))
-      ∙ sym (part_cut (band_columns * band) band_columns c (drop from words) within)
-
-module _ (image : List ℕ) (band : ℕ) where
-  -- the words of a row
-  pub row_words : (position : ℕ) → position < row_count image
-      → take (column_count image) (drop (1 + column_count image + position * column_count image) image) ≡ get_or (image_rows image) position []
-  row_words position h =
-      ap (take (column_count image)) (sym (drop-drop (position * column_count image) (1 + column_count image) image))
-      ∙ sym (rows_at_lem (column_count image) (row_count image) position (cell_words image) h)
-
-  -- they are within the image
-  pub row_within : Passed max_stored_rows image → (position : ℕ) → position < row_count image
-      → 1 + column_count image + position * column_count image + column_count image ≤ length image
-  row_within p position h = omega (arith, p.all_words, row_fits (column_count image) (row_count image) position h)
-
-  -- what a line shows of them
-  pub row_part : (k r position : ℕ) → k ≡ column_count image → r ≡ min (band_columns * band + band_columns) k
-      → band_columns * band < column_count image → position < row_count image
-      → take (1 + k + position * k + r - (1 + k + position * k + band_columns * band)) (drop (1 + k + position * k + band_columns * band) image)
-      ≡ in_band band (get_or (image_rows image) position [])
-  row_part k r position e last within h =
-      let row = 1 + k + position * k in
-      band_part image row band k (row + band_columns * band) (row + r) refl (ap (λ (n : ℕ). row + n) last) (omega arith)
-      ∙ ap (λ (n : ℕ). in_band band (take n (drop (1 + n + position * n) image))) e
-      ∙ ap (in_band band) (row_words position h)
-
-  -- what the first line shows of the columns
-  pub columns_part : (k r : ℕ) → k ≡ column_count image → r ≡ min (band_columns * band + band_columns) k
-      → band_columns * band < column_count image
-      → take (1 + r - (1 + band_columns * band)) (drop (1 + band_columns * band) image) ≡ in_band band (column_words image)
-  columns_part k r e last within =
-      band_part image 1 band k (1 + band_columns * band) (1 + r) refl (ap (λ (n : ℕ). 1 + n) last) (omega arith)
-      ∙ ap (λ (n : ℕ). in_band band (take n (drop 1 image))) e
+  -- the line of a row that the image has, and that of a position behind the last row
+  module _ (position : ℕ) where
+    pub row_shown : position < row_count image
+        → words ≡ in_band band (take (1 + k + position * k + k - (1 + k + position * k)) (drop (1 + k + position * k) image))
+        → page_line (decimal position) (map cell_text words) ≡ line_at image band position
+    row_shown h e =
+        let size : 1 + k + position * k + k - (1 + k + position * k) ≡ k = omega arith in
+        ap (λ (l : List ℕ). page_line (decimal position) (map cell_text l))
+        (e
+        ∙ ap (λ (n : ℕ). in_band band (take n (drop (1 + k + position * k) image))) size
+        ∙ ap (λ (n : ℕ). in_band band (take n (drop (1 + n + position * n) image))) count
+        ∙ ap (λ (l : List ℕ). in_band band (take (column_count image) l)) (sym (drop-drop (position * column_count image) (1 + column_count image) image))
+        ∙ ap (in_band band) (sym (rows_at_lem (column_count image) (row_count image) position (cell_words image) h)))
+        ∙ sym (ap (λ (b : Bool). cond b (cells_line image band position) (page_line [] [])) (lt-ltb position (row_count image) h))

@@ -1,4 +1,4 @@
 -- Laws that the proofs of this crate cite.
 pub mod Bands
-pub mod LineWriting
-pub mod PageWriting
+pub mod LineParts
+pub mod Pages

@@ -1,2 +1,3 @@
 -- Words of the contracts of this crate.
 pub mod Bands
+pub mod Lines

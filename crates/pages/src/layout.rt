@@ -1,63 +1,54 @@
 // Which columns and rows stand on a page, and how many pages there are.
-ghost use Rattle.std.specs.Prelude.{◌≡◌, ◌+◌, ◌*◌, ◌≤◌, min, length};
-ghost use Rattle.definitions.specs.Limits.{max_columns, max_stored_rows};
+ghost use Rattle.std.specs.Prelude.{◌≡◌, ◌*◌, ◌≤◌, length};
+ghost use Rattle.definitions.specs.Limits.{max_stored_rows};
 ghost use Rattle.definitions.specs.Claims.{Passed};
-ghost use Rattle.definitions.specs.Page.{band_columns, line_at, band_page, band_pages, page_count, page_bytes};
-ghost use Rattle.definitions.specs.PageClaims.{line_bytes};
-ghost use Rattle.lists.specs.Written.{Written};
+ghost use Rattle.definitions.specs.Page.{in_band, band_columns, line_at, band_page, band_pages, page_count};
 ghost use Rattle.pages.specs.Bands.{HasBand};
+ghost use Rattle.text.specs.Writer.{HasRoom, Wrote};
 
 use crate::lines::{id_line, row_line};
+use text::Writer;
 
 // "Columns go in bands of six": "59 rows a page".
 const BAND_COLUMNS: usize = 6;
 
 const PAGE_ROWS: usize = 59;
 
-// The column behind the last one of a band.
-fn band_end(columns: usize, band: usize) -> usize
-    requires { (columns ≤ max_columns) × (band_columns * band ≤ columns) }
-    ensures { result ≡ min (band_columns * band + band_columns) columns }
+// The words of a band, of those of a row or of the columns.
+fn in_band(words: &[u32], band: usize) -> &[u32]
+    requires { band_columns * band ≤ length words.now }
+    ensures { result.now ≡ in_band band words.now }
 {
-    let end = BAND_COLUMNS * band + BAND_COLUMNS;
-    if end < columns {
-        return end;
-    }
-    columns
+    let rest = &words[BAND_COLUMNS * band..];
+    &rest[..rest.len().min(BAND_COLUMNS)]
 }
 
 // The line of the row at a position, in a band; a blank line where there is no such row.
-fn put_line(image: &[u32], band: usize, position: usize, out: &mut [u8], at: usize) -> usize
-    requires { HasBand image.now band × (at + line_bytes ≤ length out.old) }
-    ensures { Written out.old at
-        (line_at image.now band position) out.new result }
+fn put_line(image: &[u32], band: usize, position: usize, out: &mut Writer)
+    requires has_band { HasBand image.now band }
+    requires room { HasRoom out.old (line_at image.now band position) }
+    ensures { Wrote out.old (line_at image.now band position) out.new }
 {
     let header = image[0];
     if words::rows(header) as usize <= position {
-        return id_line(&[], out, at);
+        return id_line(&[], out);
     }
     let columns = words::columns(header) as usize;
     let row = 1 + columns + position * columns;
-    let start = row + BAND_COLUMNS * band;
-    let stop = row + band_end(columns, band);
-    row_line(position, &image[start..stop], out, at)
+    row_line(position, in_band(&image[row..row + columns], band), out);
 }
 
 // The page of a band that holds its rows from 59 × part on.
-pub(crate) fn put_page(image: &[u32], band: usize, part: usize, out: &mut [u8]) -> usize
-    requires { HasBand image.now band × (part ≤ max_stored_rows) × (page_bytes ≤ length out.old) }
-    ensures { Written out.old 0
-        (band_page image.now band part) out.new result }
+pub(crate) fn put_page(image: &[u32], band: usize, part: usize, out: &mut Writer)
+    requires has_band { HasBand image.now band × (part ≤ max_stored_rows) }
+    requires room { HasRoom out.old (band_page image.now band part) }
+    ensures { Wrote out.old (band_page image.now band part) out.new }
 {
-    let start = 1 + BAND_COLUMNS * band;
-    let stop = 1 + band_end(words::columns(image[0]) as usize, band);
-    let mut end = id_line(&image[start..stop], out, 0);
-    let mut i = 0;
-    while i < PAGE_ROWS {
-        end = put_line(image, band, PAGE_ROWS * part + i, out, end);
-        i += 1;
+    let columns = words::columns(image[0]) as usize;
+    id_line(in_band(&image[1..1 + columns], band), out);
+    for i in 0..PAGE_ROWS {
+        put_line(image, band, PAGE_ROWS * part + i, out);
     }
-    end
 }
 
 // How many pages a band of the image takes: one where there are no rows.
@@ -65,11 +56,7 @@ pub(crate) fn band_pages(image: &[u32]) -> usize
     requires { Passed max_stored_rows image.now }
     ensures { result ≡ band_pages image.now }
 {
-    let rows = words::rows(image[0]) as usize;
-    if rows == 0 {
-        return 1;
-    }
-    (rows + (PAGE_ROWS - 1)) / PAGE_ROWS
+    (words::rows(image[0]) as usize).div_ceil(PAGE_ROWS).max(1)
 }
 
 // How many pages the image takes.
@@ -77,6 +64,5 @@ pub(crate) fn count_pages(image: &[u32]) -> usize
     requires { Passed max_stored_rows image.now }
     ensures { result ≡ page_count image.now }
 {
-    let bands = (words::columns(image[0]) as usize + (BAND_COLUMNS - 1)) / BAND_COLUMNS;
-    bands * band_pages(image)
+    (words::columns(image[0]) as usize).div_ceil(BAND_COLUMNS) * band_pages(image)
 }

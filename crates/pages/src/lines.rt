@@ -1,55 +1,48 @@
 // The lines of a page: 80 characters and byte 10.
-ghost use Rattle.std.specs.Prelude.{◌+◌, ◌-◌, ◌≤◌, ◌<◌, ◌^◌, [], ◌∷◌, ◌++◌, map, length};
+ghost use Rattle.std.specs.Prelude.{ℕ, ◌≤◌, ◌<◌, ◌^◌, [], map, length};
 ghost use Rattle.definitions.specs.Text.{decimal, id_text, cell_text};
-ghost use Rattle.definitions.specs.Page.{line_width, blanks, page_line, band_columns};
-ghost use Rattle.definitions.specs.PageClaims.{line_bytes};
-ghost use Rattle.lists.specs.Written.{Written};
+ghost use Rattle.definitions.specs.Page.{cell_width, page_line, band_columns};
+ghost use Rattle.pages.specs.Lines.{cells_text};
+ghost use Rattle.text.specs.Writer.{HasRoom, Wrote};
 
-use crate::fields::{CELL_WIDTH, cell_right, number_right, put_blanks};
-use text::{NEWLINE, put_byte};
+use crate::fields::{CELL_WIDTH, right};
+use text::{Cell, Id, Number, Style, Writer};
 
 // "lines of exactly 80 characters": "Characters 1–4 hold the row position".
 const LINE_WIDTH: usize = 80;
 
 const POSITION_WIDTH: usize = 4;
 
-// The blanks behind the used characters of a line, and byte 10.
-fn end_line(used: usize, out: &mut [u8], at: usize) -> usize
-    requires { (used ≤ line_width) × (at + (line_width - used) + 1 ≤ length out.old) }
-    ensures { Written out.old at
-        (blanks (line_width - used) ++ (10 ∷ [])) out.new result }
+// What follows the position: the words in cells, the blanks behind them, and byte 10.
+fn put_cells<S: Style<Value = u32>>(words: &[u32], out: &mut Writer)
+    requires few { length words.now ≤ band_columns }
+    requires narrow { (w : ℕ) → length (S.shown w) ≤ cell_width }
+    requires room { HasRoom out.old (cells_text S.shown words.now) }
+    ensures { Wrote out.old (cells_text S.shown words.now) out.new }
 {
-    let end = put_blanks(LINE_WIDTH - used, out, at);
-    put_byte(NEWLINE, out, end)
+    for word in words {
+        right::<S>(*word, CELL_WIDTH, out);
+    }
+    out.blanks(LINE_WIDTH - (POSITION_WIDTH + words.len() * CELL_WIDTH));
+    out.newline();
 }
 
 // The line of the ids of column words. Without columns it is a blank line.
-pub(crate) fn id_line(columns: &[u32], out: &mut [u8], at: usize) -> usize
-    requires { (length columns.now ≤ band_columns) × (at + line_bytes ≤ length out.old) }
-    ensures { Written out.old at
-        (page_line [] (map id_text columns.now)) out.new result }
+pub(crate) fn id_line(columns: &[u32], out: &mut Writer)
+    requires few { length columns.now ≤ band_columns }
+    requires room { HasRoom out.old (page_line [] (map id_text columns.now)) }
+    ensures { Wrote out.old (page_line [] (map id_text columns.now)) out.new }
 {
-    let mut end = put_blanks(POSITION_WIDTH, out, at);
-    let mut i = 0;
-    while i < columns.len() {
-        end = number_right(words::id(columns[i]) as usize, CELL_WIDTH, out, end);
-        i += 1;
-    }
-    end_line(end - at, out, end)
+    out.blanks(POSITION_WIDTH);
+    put_cells::<Id>(columns, out);
 }
 
 // The line of a row: its position and its cells.
-pub(crate) fn row_line(position: usize, cells: &[u32], out: &mut [u8], at: usize) -> usize
-    requires { (position < 10 ^ 4) × (length cells.now ≤ band_columns)
-        × (at + line_bytes ≤ length out.old) }
-    ensures { Written out.old at
-        (page_line (decimal position) (map cell_text cells.now)) out.new result }
+pub(crate) fn row_line(position: usize, cells: &[u32], out: &mut Writer)
+    requires few { (position < 10 ^ 4) × (length cells.now ≤ band_columns) }
+    requires room { HasRoom out.old (page_line (decimal position) (map cell_text cells.now)) }
+    ensures { Wrote out.old (page_line (decimal position) (map cell_text cells.now)) out.new }
 {
-    let mut end = number_right(position, POSITION_WIDTH, out, at);
-    let mut i = 0;
-    while i < cells.len() {
-        end = cell_right(cells[i], out, end);
-        i += 1;
-    }
-    end_line(end - at, out, end)
+    right::<Number>(position, POSITION_WIDTH, out);
+    put_cells::<Cell>(cells, out);
 }

@@ -1,13 +1,11 @@
 -- The columns' filled rows, row by row and column by column, and the blank word of a cell. Assumes nothing.
-use mathlib.Core.Path.{◌≡◌, refl, sym, ◌∙◌, ap, ap₂, subst}
-use mathlib.Core.Bool.{Bool, true, not, cond}
+use mathlib.Core.Path.{◌≡◌, refl, sym, ◌∙◌, ap, subst}
+use mathlib.Core.Bool.{Bool, true, false, not, cond}
 use mathlib.Core.List.{List, [], ◌∷◌, ◌++◌, map, map-append}
 use Prim.Native.Nat.{ℕ, ◌+◌, ◌-◌, ◌*◌, ◌%◌, ◌^◌, ◌<◌, ◌≤◌}
 use native.Mathlib.Omega.{arith}
 use lib.Bits.{bit_or}
-use lib.ListN.{length, get_or, set, replicate, take, drop, length-set, length-map, length-replicate, get_or-replicate}
-use lib.Seq.{get_or-set_same, get_or-set_other}
-use borrow.Author.Count.{below_more}
+use lib.ListN.{length, get_or, replicate, take, drop, length-map, length-replicate, get_or-replicate}
 use Rattle.definitions.proofs.Images.{rows_length}
 use Rattle.definitions.specs.Limits.{max_columns}
 use Rattle.definitions.specs.Word.{is_filled}
@@ -16,13 +14,13 @@ use Rattle.definitions.specs.ComplementUnion.{contains}
 use Rattle.definitions.specs.SetList.{bits}
 use Rattle.definitions.proofs.Bools.{bool_cases}
 use Rattle.definitions.proofs.Lists.{map_at}
-use Rattle.definitions.proofs.Rows.{cell_filled, cell_empty}
 use Rattle.definitions.proofs.Sets.{contains-get, holds_within}
 use Rattle.bitsets.specs.Bits.{has, rows_below, word_bits}
 use Rattle.bitsets.proofs.Bits.{has-bits, has_none, below_in}
 use Rattle.patterns.specs.Columns.{blank_of, filled_in, ColumnsOf, FilledRow}
 use Rattle.patterns.proofs.Digits.{digit_next}
-use Rattle.patterns.proofs.Parts.{rows_snoc, part_is, part_length}
+use Rattle.lists.proofs.Flat.{part_row, row_size, row_within}
+use Rattle.patterns.proofs.Parts.{rows_snoc}
 
 -- ---- the rows that are filled in a column
 
@@ -62,23 +60,6 @@ pub record FilledTo (row : List ℕ) (j : ℕ) (found : List ℕ) (c : ℕ) (col
   pub left : (i : ℕ) → c ≤ i → get_or columns i 0 ≡ get_or found i 0
 
 module _ (row : List ℕ) (j : ℕ) (found : List ℕ) where
-  pub filled_to_none : FilledTo row j found 0 found
-  filled_to_none = record { size = refl; done = λ i h. absurd (omega arith); left = λ i h. refl }
-
-  pub filled_to_turn : (c : ℕ) (columns : List ℕ) (b : ℕ) → c < length found → b ≡ cond (is_filled (get_or row c 0)) 1 0 → FilledTo row j found c columns
-      → FilledTo row j found (c + 1) (set columns c (bit_or (get_or columns c 0) (b * 2 ^ j % 2 ^ word_bits)))
-  filled_to_turn c columns b h eb inv =
-      let size : length columns ≡ length found = inv.size in
-      let v : ℕ = bit_or (get_or columns c 0) (b * 2 ^ j % 2 ^ word_bits) in
-      record {
-        size = length-set columns c v ∙ size;
-        done = below_more (λ (i : ℕ). get_or (set columns c v) i 0 ≡ bit_or (get_or found i 0) (cond (is_filled (get_or row i 0)) 1 0 * 2 ^ j % 2 ^ word_bits)) c
-            (λ i g. get_or-set_other columns c i v 0 (λ q. omega arith) ∙ inv.done i g)
-            (get_or-set_same columns c v 0 (omega arith)
-            ∙ ap₂ (λ (x y : ℕ). bit_or x (y * 2 ^ j % 2 ^ word_bits)) (inv.left c (omega arith)) eb);
-        left = λ i g. get_or-set_other columns c i v 0 (λ q. omega arith) ∙ inv.left i (omega arith);
-      }
-
   pub filled_to_end : (c : ℕ) (columns : List ℕ) → length row ≤ c → j < word_bits → FilledTo row j found c columns → FilledRow row j found columns
   filled_to_end c columns all small inv = record {
     more = λ rows size o.
@@ -99,32 +80,22 @@ columns_none width h = record {
   words = λ c g. get_or-replicate max_columns c 0 0 (omega arith) ∙ sym (filled_none c);
 }
 
--- how far the filling has come: the words hold the first j of n rows, and row j begins at `at`
-pub record FilledRows (width n : ℕ) (w found columns : List ℕ) (j at : ℕ) : Type 0 where
-  pub passed : j ≤ n
-  pub here : at ≡ j * width
-  pub size : length columns ≡ length found
-  pub filled_rows : ColumnsOf (rows_in width j w) width columns
-
--- n rows of c cells stand in w, and the row j, from at on, is the next
-pub columns_more : (c n j at : ℕ) (w : List ℕ) → n * c ≤ length w → j < n → at ≡ j * c → (found columns : List ℕ)
-    → ColumnsOf (rows_in c j w) c found → FilledRow (take (at + c - at) (drop at w)) j found columns → ColumnsOf (rows_in c (j + 1) w) c columns
-columns_more c n j at w fits more here found columns o f =
-    let part : List ℕ = take (at + c - at) (drop at w) in
-    let long : length part ≡ c = part_length c n j w fits more at here in
+-- n rows of c cells stand in w, and row j is the next
+pub columns_more : (c n j : ℕ) (w : List ℕ) → n * c ≤ length w → j < n → (found columns : List ℕ) → ColumnsOf (rows_in c j w) c found
+    → FilledRow (take (j * c + c - j * c) (drop (j * c) w)) j found columns → ColumnsOf (rows_in c (j + 1) w) c columns
+columns_more c n j w fits more found columns o f =
+    let part : List ℕ = take (j * c + c - j * c) (drop (j * c) w) in
+    let long : length part ≡ c = row_size c w (j * c) (row_within c n w j (j * c) refl more fits) in
     subst (λ (r : List (List ℕ)). ColumnsOf r c columns)
-    (ap (λ (u : List ℕ). rows_in c j w ++ (u ∷ [])) (part_is c n j w fits more at here) ∙ sym (rows_snoc c j w))
+    (ap (λ (u : List ℕ). rows_in c j w ++ (u ∷ [])) (part_row c (j * c) w) ∙ sym (rows_snoc c j w))
     (subst (λ (k : ℕ). ColumnsOf (rows_in c j w ++ (part ∷ [])) k columns) long
     (f.more (rows_in c j w) (rows_length c j w) (subst (λ (k : ℕ). ColumnsOf (rows_in c j w) k found) (sym long) o)))
 
 -- ---- the blank word of a cell
 
-pub blank_empty : (x : ℕ) → x ≡ 0 → 18446744073709551615 ≡ blank_of x
+pub blank_empty : (x : ℕ) → is_filled x ≡ false → 18446744073709551615 ≡ blank_of x
 unfolding rows_below
-blank_empty x e = sym (rw (cell_empty x e))
-
-pub blank_filled : (x : ℕ) → (x ≡ 0 → ⊥) → 0 ≡ blank_of x
-blank_filled x some = sym (rw (cell_filled x some))
+blank_empty x e = rw e refl
 
 pub has_blank : (x k : ℕ) → k < word_bits → has (blank_of x) k ≡ not (is_filled x)
 has_blank x k h =

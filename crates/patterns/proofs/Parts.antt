@@ -1,8 +1,7 @@
--- The rows of a flat list of words: one more, each as a part of the words, and a walk over them. Assumes nothing.
+-- The rows of a flat list of words: one more, and each as a part of the words. Assumes nothing.
 use mathlib.Core.Path.{◌≡◌, sym, ◌∙◌, ap, ap₂}
 use mathlib.Core.List.{List, [], ◌∷◌, ◌++◌}
 use Prim.Native.Nat.{ℕ, suc, ◌+◌, ◌-◌, ◌*◌, ◌<◌, ◌≤◌}
-use native.Mathlib.Nat.{add-mul, one-mul}
 use native.Mathlib.Omega.{arith}
 use lib.ListN.{length, take, drop, length-drop}
 use lib.Seq.{length-take-le, take-suc, take_all}
@@ -33,12 +32,3 @@ module _ (c n i : ℕ) (w : List ℕ) (fits : n * c ≤ length w) (more : i < n)
 
     pub part_length : length (take (at + c - at) (drop at w)) ≡ c
     part_length = ap length part_is ∙ row_length
-
--- a walk over n rows of c words, at the row i
-
-module _ (c n i at : ℕ) (w : List ℕ) (more : i < n) (here : at ≡ i * c) where
-  pub row_ends : n * c ≤ length w → at + c ≤ length w
-  row_ends h = omega (arith, row_fits c n i more)
-
-  pub next_row : at + c ≡ (i + 1) * c
-  next_row = omega (arith, add-mul i 1 c, one-mul c)

@@ -1,23 +1,22 @@
 -- Laws of filled cells and patterns: a pattern's bound, its next bit, that its ones are the filled cells, and the walk that counts. Assumes nothing.
 use mathlib.Core.Path.{◌≡◌, refl, sym, ◌∙◌, ap, ap₂, subst}
-use mathlib.Core.Bool.{cond}
-use mathlib.Core.List.{List, [], ◌∷◌, map, map-append, flatten}
+use mathlib.Core.Bool.{Bool, true, false, cond}
+use mathlib.Core.List.{List, [], ◌∷◌, map, map-append}
 use Prim.Native.Nat.{ℕ, ◌+◌, ◌*◌, ◌/◌, ◌%◌, ◌^◌, ◌<◌, ◌≤◌}
 use native.Mathlib.Nat.{lt_of_lt_of_le}
 use native.Mathlib.Numerals.{add-one}
 use native.Mathlib.Omega.{arith}
-use lib.ListN.{length, get_or, take, drop, drop_of_length-le, length-map}
-use lib.Seq.{length-take-le, get_or-take, take-suc}
+use lib.ListN.{length, get_or, take, length-map}
+use lib.Seq.{length-take-le, take-suc}
 use lib.Bits.{bit_or}
 use lib.Pow.{pow_mono}
+use Rattle.std.specs.List.{count_by}
+use Rattle.std.proofs.lemmas.List.Recursion.{is_count_by}
 use lib.Count.{ones, ones_step}
 use Rattle.definitions.specs.Limits.{max_columns}
 use Rattle.definitions.specs.Word.{is_filled}
-use Rattle.definitions.specs.Image.{rows_in}
 use Rattle.definitions.specs.MinimumUnion.{filled}
 use Rattle.definitions.specs.SetList.{bits}
-use Rattle.definitions.proofs.Images.{words_rows}
-use Rattle.lists.proofs.Walks.{next}
 use Rattle.patterns.specs.Pattern.{pattern_of, pattern_bits}
 use Rattle.patterns.proofs.Digits.{bit_small, bits_small, digit_next}
 
@@ -51,20 +50,12 @@ pattern_turn row i p b few h e f =
     ∙ ap bits (sym (map-append is_filled (take i row) (x ∷ [])))
     ∙ ap pattern_of (sym (take-suc row i 0 h) ∙ ap (λ (n : ℕ). take n row) (sym (add-one i)))
 
--- ---- the filled cells of a list, counted from the first
+-- ---- the filled cells of a list, counted
 
-pub count_turn : (w : List ℕ) (end i total b : ℕ) → end ≤ length w → i < end → b ≡ bit_of (get_or w i 0)
-    → total + filled (drop i (take end w)) ≡ filled (take end w) → total + b + filled (drop (i + 1) (take end w)) ≡ filled (take end w)
+pub filled_count : (w : List ℕ) → filled w ≡ count_by is_filled w
 unfolding filled
-count_turn w end i total b h k e inv =
-    let more : filled (drop i (take end w)) ≡ bit_of (get_or (take end w) i 0) + filled (drop (i + 1) (take end w)) =
-    ap filled (next 0 (take end w) i (omega (arith, length-take-le end w h))) in
-    omega (arith, more, e, ap bit_of (get_or-take end w i 0 k))
-
--- no cell is left, and the words of the rows are counted
-pub count_ends : (c n total : ℕ) (w : List ℕ) → n * c ≤ length w → total + filled (drop (n * c) (take (n * c) w)) ≡ filled (take (n * c) w)
-    → total ≡ filled (flatten (rows_in c n w))
-unfolding filled
-count_ends c n total w h inv =
-    let none : filled (drop (n * c) (take (n * c) w)) ≡ 0 = ap filled (drop_of_length-le (take (n * c) w) {i = n * c} (omega (arith, length-take-le (n * c) w h))) in
-    omega (arith, none, inv, ap filled (words_rows c n w))
+filled_count w = is_count_by filled is_filled refl (λ x xs. step (is_filled x) (filled xs)) w
+  where
+    step : (b : Bool) (k : ℕ) → cond b 1 0 + k ≡ cond b (1 + k) k
+    step true k = refl
+    step false k = omega arith

@@ -15,11 +15,11 @@ mod ones;
 pub use columns::{blank, fill_columns};
 use ones::count_ones;
 
-// 1 for a filled cell, 0 for the empty cell.
-pub(crate) fn bit(cell: u32) -> u32
-    ensures { result ≡ cond (is_filled cell) 1 0 }
+// Is a cell filled?
+pub(crate) fn is_filled(cell: u32) -> bool
+    ensures { result ≡ is_filled cell }
 {
-    if cell == 0 { 0 } else { 1 }
+    cell != 0
 }
 
 // The filled pattern of a row.
@@ -28,10 +28,8 @@ fn pattern(row: &[u32]) -> u32
     ensures { (result ≡ pattern_of row.now) × (result < 2 ^ max_columns) }
 {
     let mut p = 0;
-    let mut i = 0;
-    while i < row.len() {
-        p = p | (bit(row[i]) << i);
-        i += 1;
+    for (i, cell) in row.iter().enumerate() {
+        p |= u32::from(is_filled(*cell)) << i;
     }
     p
 }
@@ -49,12 +47,9 @@ pub fn count_rows(cells: &[u32], n: usize, width: usize) -> usize
     requires { n * width ≤ length cells.now }
     ensures { result ≡ filled (flatten (rows_in width n cells.now)) }
 {
-    let end = n * width;
     let mut total = 0;
-    let mut i = 0;
-    while i < end {
-        total += bit(cells[i]) as usize;
-        i += 1;
+    for cell in &cells[..n * width] {
+        total += usize::from(is_filled(*cell));
     }
     total
 }

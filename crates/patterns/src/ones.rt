@@ -1,4 +1,4 @@
-// The count of ones, by a table of the ones in a byte.
+// The count of ones, by a table of the ones in a byte: the form that was asked for, in place of `u32::count_ones`.
 ghost use Rattle.std.specs.Prelude.{◌≡◌};
 ghost use Rattle.std.specs.Int.Count.{ones};
 

@@ -1,8 +1,6 @@
--- Laws of rows named by indices: comparing, inserting, merging, finding and writing them.
+-- Laws of rows named by indices: comparing, ordering, finding and writing them.
 pub mod Comparing
 pub mod Indices
-pub mod Inserting
-pub mod Merging
-pub mod Halves
+pub mod Numbered
 pub mod Positions
 pub mod Writing

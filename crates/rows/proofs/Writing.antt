@@ -3,24 +3,56 @@ use mathlib.Core.Path.{◌≡◌, sym, ◌∙◌, ap, subst}
 use mathlib.Core.Logic.{⊎_elim}
 use mathlib.Core.List.{List, [], ◌∷◌, ◌++◌, append_assoc, flatten}
 use Prim.Native.Nat.{ℕ, ◌+◌, ◌*◌, ◌<◌, ◌≤◌}
-use native.Mathlib.Nat.{add-mul, one-mul}
+use native.Mathlib.Nat.{add-mul, one-mul, zero-add}
 use native.Mathlib.Omega.{arith}
-use lib.ListN.{length, get_or, take, drop, length-drop}
+use lib.ListN.{length, get_or, take, drop, length-drop, length-map, get_or-map}
 use lib.Seq.{paste, take_all, drop_at, length-take-le}
 use Rattle.definitions.specs.Image.{rows_in}
 use Rattle.definitions.proofs.Counts.{flatten-length}
 use Rattle.definitions.proofs.Images.{rows_read}
 use Rattle.definitions.proofs.Flat.{Wide, flat_row}
-use Rattle.lists.proofs.Flat.{part_row, row_fits}
+use Rattle.lists.proofs.Flat.{row_fits}
 use Rattle.lists.proofs.Pastes.{Pasted, pasted_more}
 use Rattle.rows.specs.Indices.{row_at, rows_at, Fit}
-use Rattle.rows.proofs.Indices.{fit_named, rows_length_at, row_named, part, part_length}
+use Rattle.rows.proofs.Indices.{each_at, rows_length_at}
 
 -- the rows at indices that fit are all c words long
 fit_wide : (c : ℕ) (w l : List ℕ) → Fit c (length w) l → Wide c (rows_at c w l)
 fit_wide c w [] h r k = absurd k
 fit_wide c w (i ∷ l) h r k =
     ⊎_elim (λ e. ap length e ∙ length-take-le c (drop (i * c) w) (omega (arith, h.0, length-drop (i * c) w))) (λ q. fit_wide c w l h.1 r q) k
+
+-- the rows at the indices l, written from the front of d on
+module _ (d w l : List ℕ) (c : ℕ) (fit : Fit c (length w) l) where
+  -- the words of the row at the index x, which stands at k
+  row_wide : (k x : ℕ) → k < length l → x ≡ get_or l k 0 → (r : List ℕ) → r ≡ row_at c w x → length r ≡ c
+  row_wide k x h e r er =
+      let inside : x * c + c ≤ length w = subst (λ (i : ℕ). i * c + c ≤ length w) (sym e) (each_at (λ i. i * c + c ≤ length w) l k fit h) in
+      ap length er ∙ length-take-le c (drop (x * c) w) (omega (arith, length-drop (x * c) w))
+
+  module _ (room : length l * c ≤ length d) (k to x : ℕ) (h : k < length l) (e : x ≡ get_or l k 0) (here : to ≡ k * c) (r : List ℕ) (er : r ≡ row_at c w x) where
+    -- it has room
+    pub row_room : (cur : List ℕ) → Pasted d 0 (flatten (rows_at c w l)) (k * c) cur → to + length r ≤ length cur
+    row_room cur p = omega (arith, row_wide k x h e r er, row_fits c (length l) k h, p.size)
+
+    -- a row more
+    pub rows_turn : (cur new : List ℕ) → Pasted d 0 (flatten (rows_at c w l)) (k * c) cur → new ≡ paste cur to r (length r)
+        → (to + c ≡ (k + 1) * c) × Pasted d 0 (flatten (rows_at c w l)) ((k + 1) * c) new
+    rows_turn cur new p q =
+        let words = flatten (rows_at c w l) in
+        let all : length (rows_at c w l) ≡ length l = length-map l (row_at c w) in
+        let size : length words ≡ length l * c = flatten-length c (rows_at c w l) (fit_wide c w l fit) ∙ ap (λ (n : ℕ). n * c) all in
+        let fits : k * c + c ≤ length l * c = row_fits c (length l) k h in
+        let wide : length r ≡ c = row_wide k x h e r er in
+        let row : take c (drop (k * c) words) ≡ r =
+        flat_row c (row_at c w 0) (rows_at c w l) k (fit_wide c w l fit) (omega (arith, all))
+        ∙ get_or-map (row_at c w) l k 0 ∙ ap (row_at c w) (sym e) ∙ sym er in
+        let next : k * c + c ≡ (k + 1) * c = omega (arith, add-mul k 1 c, one-mul c) in (
+          omega (arith, here, next),
+          subst (λ (n : ℕ). Pasted d 0 words n new) next
+              (pasted_more d 0 words (k * c) cur new r c to (omega arith) (omega (arith, size)) p (here ∙ sym (zero-add (k * c))) wide row
+              (q ∙ ap (paste cur to r) wide)),
+        )
 
 module _ (d w o : List ℕ) (at c m : ℕ) (fit : Fit c (length w) (take m o)) (within : m ≤ length o) where
   -- the words of the rows at the first m indices
@@ -29,19 +61,6 @@ module _ (d w o : List ℕ) (at c m : ℕ) (fit : Fit c (length w) (take m o)) (
 
   pub row_words_length : length row_words ≡ m * c
   row_words_length = flatten-length c (rows_at c w (take m o)) (fit_wide c w (take m o) fit) ∙ ap (λ (n : ℕ). n * c) (rows_length_at c w m o within)
-
-  -- a row more
-  pub rows_turn : at + m * c ≤ length d → (k x to : ℕ) (cur new : List ℕ) → k < m → x ≡ get_or o k 0 → to ≡ at + k * c → Pasted d at row_words (k * c) cur
-      → new ≡ paste cur to (part c (x * c) w) c → Pasted d at row_words ((k + 1) * c) new
-  rows_turn room k x to cur new h e here p q =
-      let fits : k * c + c ≤ m * c = row_fits c m k h in
-      let inside : x * c + c ≤ length w = subst (λ (i : ℕ). i * c + c ≤ length w) (sym e) (fit_named c (length w) m k o fit within h) in
-      let row : take c (drop (k * c) row_words) ≡ part c (x * c) w =
-      flat_row c (row_at c w 0) (rows_at c w (take m o)) k (fit_wide c w (take m o) fit) (omega (arith, rows_length_at c w m o within))
-      ∙ row_named c w m k o h ∙ ap (row_at c w) (sym e) ∙ sym (part_row c (x * c) w) in
-      let next : k * c + c ≡ (k + 1) * c = omega (arith, add-mul k 1 c, one-mul c) in
-      subst (λ (n : ℕ). Pasted d at row_words n new) next
-      (pasted_more d at row_words (k * c) cur new (part c (x * c) w) c to (omega arith) (omega (arith, row_words_length)) p here (part_length c (x * c) w inside) row q)
 
   -- all words of the list afterwards
   rows_written : paste d at row_words (m * c) ≡ take at d ++ (row_words ++ drop (at + m * c) d)

@@ -2,13 +2,11 @@
 // position of a row among them, and rows written by their indices. Rows stay where they are; only their indices are moved.
 #![tactic(auto)]
 
+mod calls;
 mod compare;
-mod insert;
-mod merge;
+mod named;
 mod order;
-mod search;
 mod write;
 
-pub use order::order_rows;
-pub use search::position_of;
-pub use write::{write_rows, write_words};
+pub use calls::{order_rows, position_of, write_rows, write_words};
+pub use named::Rows;

@@ -1,31 +1,26 @@
 // The image of the fan, a table with 1,024 maximal sets: 20 rows of 11 columns.
 use crate::image;
+use std::alloc::{AllocError, Global};
+
+const ROWS: u32 = 20;
+
+const COLUMNS: u32 = 11;
 
 // The cell of a row and a column: 1 in column 0, and in each of ten further columns one row with 1 and one with 2.
-fn cell(row: usize, column: usize) -> u32 {
+fn cell(row: u32, column: u32) -> u32 {
     if column == 0 {
-        return 0x4000_0001;
-    }
-    if column != row / 2 + 1 {
-        return 0;
-    }
-    if row % 2 == 0 {
-        return 0x4000_0001;
-    }
-    0x4000_0002
-}
-
-// Writes the cells behind the header and the columns.
-fn cells(words: &mut [u32]) {
-    for k in 0..220 {
-        image::put(cell(k / 11, k % 11), words, 12 + k);
+        0x4000_0001
+    } else if column == row / 2 + 1 {
+        0x4000_0001 + row % 2
+    } else {
+        0
     }
 }
 
-// Writes the image; how many words it has.
-pub fn write(words: &mut [u32]) -> usize {
-    image::read(b"0123456789:|", words);
-    image::put(0xc050_000b, words, 0);
-    cells(words);
-    232
+pub fn image(alloc: Global) -> Result<Vec<u32>, AllocError> {
+    let columns: Vec<u32> = (0..COLUMNS).map(|id| 0x8000_0000 | id).collect(alloc)?;
+    let cells: Vec<u32> = (0..ROWS * COLUMNS)
+        .map(|k| cell(k / COLUMNS, k % COLUMNS))
+        .collect(alloc)?;
+    image::of_words(alloc, &columns, &cells)
 }

@@ -1,96 +1,68 @@
 // Answers and buffers as lines.
-ghost use Rattle.std.specs.Prelude.{◌<◌, ◌≤◌};
-
+use definitions::Refusal;
+use std::alloc::{AllocError, Global};
 use std::io;
 
 // What every word of a lent buffer holds before a call.
-pub const FOUND: u32 = 0x5a5a_5a5a;
+const FOUND: u32 = 0x5a5a_5a5a;
 
-pub fn text(rt: &impl Print, t: &[u8]) -> io::Result<()> {
-    rt.write_all(t)
+// A buffer of some words to lend to a call.
+pub fn lend(alloc: Global, words: usize) -> Result<Vec<u32>, AllocError> {
+    vec![in alloc; FOUND; words]
 }
 
-pub fn end_line(rt: &impl Print) -> io::Result<()> {
-    text(rt, b"\n")
-}
-
-// A number, after a space.
-pub fn value(rt: &impl Print, n: u64) -> io::Result<()> {
-    print!(rt; " {n}")
-}
-
-fn word(rt: &impl Print, w: u32) -> io::Result<()> {
-    print!(rt; " {w:08x}")
-}
-
-pub fn refused(rt: &impl Print, number: u32, table: u32) -> io::Result<()> {
-    text(rt, b": refused")?;
-    value(rt, number as u64)?;
-    text(rt, b" table")?;
-    value(rt, table as u64)?;
-    end_line(rt)
-}
-
-// 1 for a word as found, else 0.
-fn same(w: u32) -> u64
-    ensures { result ≤ 1 }
-{
-    if w == FOUND { 1 } else { 0 }
-}
-
-// How many words hold what a buffer held before the call.
-fn kept(words: &[u32]) -> u64 {
-    let mut n: u64 = 0;
-    for w in words {
-        n += same(*w);
+// The answer of a call: its counts, or the refusal.
+pub fn answer<const N: usize>(
+    rt: &impl Print,
+    answer: Result<[usize; N], Refusal>,
+) -> io::Result<()> {
+    match answer {
+        Ok(counts) => {
+            print!(rt; ": done")?;
+            for count in counts {
+                print!(rt; " {count}")?;
+            }
+            println!(rt)
+        }
+        Err(refusal) => println!(rt; ": {refusal}"),
     }
-    n
 }
 
-// One number made of all words and their places.
+// How long the rest of a buffer is that a call left alone, and how much of it is as found.
+pub fn rest<T: PartialEq>(rt: &impl Print, rest: &[T], found: &T) -> io::Result<()> {
+    let past = rest.len();
+    let kept = rest.iter().filter(|item| *item == found).count();
+    println!(rt; "past {past} kept {kept}")
+}
+
+// One number made of all words and their places. The product too is of a remainder, so that no step overflows whatever it begins with.
 fn digest(words: &[u32]) -> u64 {
-    let mut d: u64 = 0;
-    for w in words {
-        d = (d * 31 + wide(*w)) % 65521;
-    }
-    d
-}
-
-fn wide(w: u32) -> u64
-    ensures { result < 4294967296 }
-{
-    w as u64
-}
-
-fn all_words(rt: &impl Print, words: &[u32]) -> io::Result<()> {
-    for w in words {
-        word(rt, *w)?;
-    }
-    Ok(())
+    words
+        .iter()
+        .fold(0, |d, word| (d % 65521 * 31 + u64::from(*word)) % 65521)
 }
 
 // The written words, or a number made of them where they are more than 64.
 fn written(rt: &impl Print, words: &[u32]) -> io::Result<()> {
     if words.len() <= 64 {
-        all_words(rt, words)?;
+        for word in words {
+            print!(rt; " {word:08x}")?;
+        }
+        println!(rt)
     } else {
-        text(rt, b" digest")?;
-        value(rt, digest(words))?;
+        let digest = digest(words);
+        println!(rt; " digest {digest}")
     }
-    end_line(rt)
 }
 
-// The words that were written, and how many of the others are as found.
+// The words that were written at the front of a buffer, if any, and how many of the others are as found.
 pub fn buffer(rt: &impl Print, words: &[u32], end: usize) -> io::Result<()> {
-    if end <= words.len() {
-        if 0 < end {
-            written(rt, &words[..end])?;
-        }
-        text(rt, b" past")?;
-        value(rt, (words.len() - end) as u64)?;
-        text(rt, b" kept")?;
-        value(rt, kept(&words[end..]))?;
-        end_line(rt)?;
+    let Some((front, back)) = words.split_at_checked(end) else {
+        return Ok(());
+    };
+    if !front.is_empty() {
+        written(rt, front)?;
     }
-    Ok(())
+    print!(rt; " ")?;
+    rest(rt, back, &FOUND)
 }

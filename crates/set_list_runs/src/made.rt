@@ -1,52 +1,62 @@
 // Lists that complement union makes, read back.
-use crate::reading::part;
-use run_cases::cases::set_list;
+use crate::read;
+use run_cases::change::{Change, changed};
 use run_cases::{fan, image};
+use std::alloc::{AllocError, Global};
 use std::io;
 
-// The list of two tables that texts describe.
-fn list(
-    rt: &impl Print,
-    name: &[u8],
-    first: &[u8],
-    second: &[u8],
-    rows: u32,
-    room: usize,
-) -> io::Result<()> {
-    let mut a = [0u32; 1000];
-    let mut sets = [0u32; 100];
-    let n = image::read(first, &mut a);
-    let end = set_list(&a, n, second, &mut sets);
-    part(rt, name, &sets, end, rows, room)
-}
-
-pub(crate) fn few(rt: &impl Print) -> io::Result<()> {
-    list(
-        rt,
-        b"made of board and plant",
-        b":;<| 73- 7-X 95Y",
-        b":=;| 723 91-",
+// Each case of two texts: its name, its tables, the rows of their union, and the words of the buffer.
+const FEW: [(&str, &str, &str, u32, usize); 2] = [
+    (
+        "made of board and plant",
+        ":;<| 73- 7-X 95Y",
+        ":=;| 723 91-",
         5,
         14,
-    )?;
-    list(
-        rt,
-        b"made of four rows around",
-        b"1234| 12-- -23-",
-        b"1234| --34 1--4",
+    ),
+    (
+        "made of four rows around",
+        "1234| 12-- -23-",
+        "1234| --34 1--4",
         4,
         16,
-    )
+    ),
+];
+
+// The set list of complement union of two tables, none where it's refused.
+fn set_list(alloc: Global, a: &[u32], b: &[u32]) -> Result<Option<Vec<u32>>, AllocError> {
+    let mut table = vec![in alloc; 0; 12000]?;
+    let mut list = vec![in alloc; 0; 4200]?;
+    let Ok(done) = unions::complement_union(a, b, &mut table, &mut list) else {
+        return Ok(None);
+    };
+    list.truncate(done.set_words);
+    Ok(Some(list))
+}
+
+pub(crate) fn run(rt: &(impl Print + AllocGlobal)) -> io::Result<()> {
+    let alloc = rt.alloc();
+    for (name, first, second, rows, room) in FEW {
+        let a = image::of_text(alloc, first)?;
+        let b = image::of_text(alloc, second)?;
+        let list = set_list(alloc, &a, &b)?.unwrap_or(Vec::new(alloc));
+        read(rt, name, &list, rows, room)?;
+    }
+    many(rt)
 }
 
 // The list of the fan, of 1,024 sets of 20 rows, and a longer one.
-pub(crate) fn many(rt: &impl Print) -> io::Result<()> {
-    let mut a = [0u32; 1000];
-    let mut sets = [0u32; 4200];
-    let n = fan::write(&mut a);
-    let end = set_list(&a, n, b"0|", &mut sets);
-    part(rt, b"made of 1,024 sets", &sets, end, 20, 12300)?;
-    part(rt, b"1,024 sets, one word short", &sets, end, 20, 12287)?;
-    image::put(0xd004_0004, &mut sets, 0);
-    part(rt, b"1,025 sets", &sets, 4101, 20, 12300)
+fn many(rt: &(impl Print + AllocGlobal)) -> io::Result<()> {
+    let alloc = rt.alloc();
+    let a = fan::image(alloc)?;
+    let b = image::of_text(alloc, "0|")?;
+    let list = set_list(alloc, &a, &b)?.unwrap_or(Vec::new(alloc));
+    read(rt, "made of 1,024 sets", &list, 20, 12300)?;
+    read(rt, "1,024 sets, one word short", &list, 20, 12287)?;
+    let longer = changed(
+        alloc,
+        &list,
+        &[Change::Word(0, 0xd004_0004), Change::Length(4101)],
+    )?;
+    read(rt, "1,025 sets", &longer, 20, 12300)
 }

@@ -1,17 +1,18 @@
 -- Laws of mark words, one after the other: which positions they mark, and whether these are below a number of rows. Assumes
 -- nothing.
 use mathlib.Core.Path.{◌≡◌, refl, sym, ◌∙◌, ap, ap₂}
-use mathlib.Core.Bool.{Bool, true, false, not, ◌&&◌, ◌||◌, and_assoc, and-true}
+use mathlib.Core.Bool.{Bool, true, false, not, ◌&&◌, ◌||◌}
 use mathlib.Core.List.{List, [], ◌∷◌, ◌++◌}
 use Prim.Native.Nat.{ℕ, ◌+◌, ◌-◌, ◌/◌, ◌%◌, ◌^◌, ◌<◌, ◌≤◌}
 use native.Mathlib.Nat.{zero-div}
 use native.Mathlib.Omega.{arith}
 use lib.Dec.{eqb, ltb}
-use lib.ListN.{length, get_or, drop, length-append}
+use lib.ListN.{length, length-append}
 use lib.Pow.{shr-shr}
-use borrow.Author.Tests.{ltb-true, ltb-false, eq-eqb, ne_eqb, lt-ltb}
+use borrow.Author.Tests.{ltb-true, ltb-false, eq-eqb, lt-ltb}
+use Rattle.std.specs.List.{list_any}
 use Rattle.definitions.specs.Limits.{marks_per_word}
-use Rattle.definitions.specs.Lists.{all, any, tabulate}
+use Rattle.definitions.specs.Lists.{all, tabulate}
 use Rattle.definitions.specs.Word.{kind_of}
 use Rattle.definitions.specs.Reading.{marks_in, set_in, positions_of}
 use Rattle.definitions.specs.ReadBack.{are_mark_words}
@@ -23,8 +24,7 @@ use Rattle.definitions.proofs.MarkBits.{word_set_lem}
 use Rattle.definitions.proofs.Marks.{word_set, set_cons, positions_append}
 use Rattle.set_lists.specs.Marks.{is_mark_word, marks_fit}
 use Rattle.bitsets.specs.Bits.{has}
-use Rattle.bitsets.proofs.Positions.{has-mod, no_shift, positions_under, some_position}
-use Rattle.lists.proofs.Walks.{next, end}
+use Rattle.bitsets.proofs.Positions.{has-mod, positions_under, some_position}
 
 -- ---- one mark word
 
@@ -51,27 +51,33 @@ module _ (w : ℕ) where
   word_some from =
       ap (λ (s : List Bool). ltb 0 (length (positions_of from s))) (word_bits_lem w) ∙ some_position marks_per_word (w % 2 ^ 30) from low_below
 
-  pub other_kind : (from rows : ℕ) → (kind_of w ≡ 2 → ⊥) → false ≡ is_mark_word from rows w
-  other_kind from rows k = rw (ne_eqb (kind_of w) 2 k)
+  -- the low bits shifted by as many positions as may be marked are none
+  mark_word : (from rows : ℕ) → is_mark_word from rows w ≡ (eqb (kind_of w) 2 && eqb (w % 2 ^ 30 / 2 ^ (rows - from)) 0)
+  mark_word from rows = ap (λ (b : Bool). eqb (kind_of w) 2 && b) (word_below from rows)
 
-  -- of a mark word with these low bits, where `from` is its first position
-  module _ (from rows low : ℕ) (e : low ≡ w % 2 ^ 30) (k : kind_of w ≡ 2) where
-    mark_word : is_mark_word from rows w ≡ eqb (low / 2 ^ (rows - from)) 0
-    mark_word = rw (eq-eqb (kind_of w) 2 k) (word_below from rows ∙ ap (λ (x : ℕ). eqb (x / 2 ^ (rows - from)) 0) (sym e))
+  -- the first position doesn't matter, but how many from it on may be marked
+  pub mark_word_from : (from rows : ℕ) → is_mark_word from rows w ≡ is_mark_word 0 (rows - from) w
+  mark_word_from from rows =
+      let held : rows - from ≡ rows - from - 0 = omega arith in
+      mark_word from rows
+      ∙ ap (λ (k : ℕ). eqb (kind_of w) 2 && eqb (w % 2 ^ 30 / 2 ^ k) 0) held
+      ∙ sym (mark_word 0 (rows - from))
 
-    pub none_held : rows ≤ from → eqb low 0 ≡ is_mark_word from rows w
-    none_held h = ap (λ (x : ℕ). eqb x 0) (sym (no_shift low from rows h)) ∙ sym mark_word
+  -- of a word of kind 2 with these low bits
+  module _ (held : ℕ) {low : ℕ} (e : low ≡ w % 2 ^ 30) (k : kind_of w ≡ 2) where
+    pub some_held : eqb (low / 2 ^ held) 0 ≡ is_mark_word 0 held w
+    some_held =
+        let none : held ≡ held - 0 = omega arith in
+        ap₂ (λ (x i : ℕ). eqb (x / 2 ^ i) 0) e none ∙ sym (mark_word 0 held ∙ rw (eq-eqb (kind_of w) 2 k) refl)
 
-    pub all_held : marks_per_word ≤ rows - from → true ≡ is_mark_word from rows w
+    pub all_held : marks_per_word ≤ held → true ≡ is_mark_word 0 held w
     all_held h =
-        let more = rows - from - marks_per_word in
-        let size : rows - from ≡ marks_per_word + more = omega arith in
+        let more = held - marks_per_word in
+        let size : held ≡ marks_per_word + more = omega arith in
         let none : low / 2 ^ marks_per_word ≡ 0 = omega arith in
-        sym (mark_word ∙ eq-eqb (low / 2 ^ (rows - from)) 0
+        sym (eq-eqb (low / 2 ^ held) 0
         (ap (λ (i : ℕ). low / 2 ^ i) size ∙ sym (shr-shr low marks_per_word more) ∙ ap (λ (x : ℕ). x / 2 ^ more) none ∙ zero-div (2 ^ more)))
-
-    pub some_held : (held : ℕ) → held ≡ rows - from → eqb (low / 2 ^ held) 0 ≡ is_mark_word from rows w
-    some_held held q = ap (λ (i : ℕ). eqb (low / 2 ^ i) 0) q ∙ sym mark_word
+        ∙ some_held
 
 -- ---- mark words one after the other
 
@@ -87,10 +93,10 @@ positions_words from w marks =
     ∙ positions_append from (word_set w) (mark_set marks)
     ∙ ap (λ (k : ℕ). positions_of from (word_set w) ++ positions_of k (mark_set marks)) e
 
--- each of them is of kind 2 and marks positions below `rows` alone; `from` is the first that the first of them holds
-unfoldable pub fits_from : ℕ → ℕ → List ℕ → Bool
-fits_from from rows [] = true
-fits_from from rows (w ∷ marks) = is_mark_word from rows w && fits_from (from + marks_per_word) rows marks
+-- each of them is of kind 2 and marks none but the first `held` positions of them all
+unfoldable pub fits : ℕ → List ℕ → Bool
+fits held [] = true
+fits held (w ∷ marks) = is_mark_word 0 held w && fits (held - marks_per_word) marks
 
 and_swap : (a b c d : Bool) → ((a && b) && (c && d)) ≡ ((a && c) && (b && d))
 and_swap true true c d = refl
@@ -99,16 +105,21 @@ and_swap true false false d = refl
 and_swap false b c d = refl
 
 fits_words : (from rows : ℕ) (marks : List ℕ)
-    → (are_mark_words marks && all (λ p. ltb p rows) (positions_of from (mark_set marks))) ≡ fits_from from rows marks
-unfolding fits_from all marks_in tabulate positions_of
+    → (are_mark_words marks && all (λ p. ltb p rows) (positions_of from (mark_set marks))) ≡ fits (rows - from) marks
+unfolding fits all marks_in tabulate positions_of
 fits_words from rows [] = refl
 fits_words from rows (w ∷ marks) =
+    let left : rows - (from + marks_per_word) ≡ rows - from - marks_per_word = omega arith in
     ap (λ (l : List ℕ). (eqb (kind_of w) 2 && are_mark_words marks) && all (λ p. ltb p rows) l) (positions_words from w marks)
     ∙ ap (λ (b : Bool). (eqb (kind_of w) 2 && are_mark_words marks) && b)
     (all_append (λ p. ltb p rows) (positions_of from (word_set w)) (positions_of (from + marks_per_word) (mark_set marks)))
     ∙ and_swap (eqb (kind_of w) 2) (are_mark_words marks) (all (λ p. ltb p rows) (positions_of from (word_set w)))
     (all (λ p. ltb p rows) (positions_of (from + marks_per_word) (mark_set marks)))
-    ∙ ap (λ (b : Bool). is_mark_word from rows w && b) (fits_words (from + marks_per_word) rows marks)
+    ∙ ap₂ (λ (b c : Bool). b && c) (mark_word_from w from rows)
+    (fits_words (from + marks_per_word) rows marks ∙ ap (λ (k : ℕ). fits k marks) left)
+
+pub fits_all : (rows : ℕ) (marks : List ℕ) → marks_fit rows marks ≡ fits rows marks
+fits_all rows marks = let e : rows - 0 ≡ rows = omega arith in fits_words 0 rows marks ∙ ap (λ (k : ℕ). fits k marks) e
 
 some_either : (a b : ℕ) → ltb 0 (a + b) ≡ (ltb 0 a || ltb 0 b)
 some_either a b =
@@ -120,8 +131,8 @@ some_either a b =
     ap (λ (k : ℕ). ltb 0 k) g ∙ ap (λ (x : Bool). x || ltb 0 b) (sym e))
 
 -- some word has a mark
-pub some_words : (from : ℕ) (marks : List ℕ) → ltb 0 (length (positions_of from (mark_set marks))) ≡ any (λ w. not (eqb (w % 2 ^ 30) 0)) marks
-unfolding any marks_in tabulate positions_of
+pub some_words : (from : ℕ) (marks : List ℕ) → ltb 0 (length (positions_of from (mark_set marks))) ≡ list_any (λ w. not (eqb (w % 2 ^ 30) 0)) marks
+unfolding marks_in tabulate positions_of
 some_words from [] = refl
 some_words from (w ∷ marks) =
     let first = positions_of from (word_set w) in
@@ -130,26 +141,3 @@ some_words from (w ∷ marks) =
     ∙ ap (λ (k : ℕ). ltb 0 k) (length-append first rest)
     ∙ some_either (length first) (length rest)
     ∙ ap₂ (λ (b c : Bool). b || c) (word_some w from) (some_words (from + marks_per_word) marks)
-
--- ---- the walk over them
-
-module _ (rows : ℕ) (marks : List ℕ) where
-  -- what the words passed and those that are left say is what all say
-  abbrev pub Fitting : Bool → ℕ → ℕ → Type 0
-  Fitting fit from i = (fit && fits_from from rows (drop i marks)) ≡ marks_fit rows marks
-
-  pub fitting_starts : Fitting true 0 0
-  fitting_starts = sym (fits_words 0 rows marks)
-
-  pub fitting_turn : (fit here : Bool) (from i : ℕ) → i < length marks → here ≡ is_mark_word from rows (get_or marks i 0)
-      → Fitting fit from i → Fitting (fit && here) (from + marks_per_word) (i + 1)
-  unfolding fits_from
-  fitting_turn fit here from i h e inv =
-      ap (λ (b : Bool). (fit && b) && fits_from (from + marks_per_word) rows (drop (i + 1) marks)) e
-      ∙ and_assoc fit (is_mark_word from rows (get_or marks i 0)) (fits_from (from + marks_per_word) rows (drop (i + 1) marks))
-      ∙ ap (λ (l : List ℕ). fit && fits_from from rows l) (sym (next 0 marks i h))
-      ∙ inv
-
-  pub fitting_ends : (fit : Bool) (from i : ℕ) → length marks ≤ i → Fitting fit from i → fit ≡ marks_fit rows marks
-  unfolding fits_from
-  fitting_ends fit from i h inv = sym (and-true fit) ∙ ap (λ (l : List ℕ). fit && fits_from from rows l) (sym (end marks i h)) ∙ inv

@@ -5,6 +5,8 @@ use Prim.Native.Nat.{ℕ, ◌+◌, ◌*◌, ◌%◌, ◌^◌, ◌≤◌, ◌<◌
 use native.Mathlib.Omega.{arith}
 use lib.Count.{ones}
 use lib.ListN.{length, get_or, drop, set, length-append}
+use Rattle.std.specs.List.{sum_by}
+use Rattle.std.proofs.lemmas.List.Sums.{sum_by-cons}
 use Rattle.definitions.specs.Limits.{marks_per_word}
 use Rattle.definitions.specs.Lists.{tabulate}
 use Rattle.definitions.specs.Reading.{marks_in, set_in, positions_of, positions_in}
@@ -17,6 +19,7 @@ use Rattle.lists.specs.Written.{Fits, Written}
 use Rattle.lists.proofs.Walks.{next, end}
 use Rattle.lists.proofs.Writing.{Writing, starts, rest_as, fits_next, turns, ends, one_written}
 use Rattle.set_lists.specs.Marks.{word_positions}
+use Rattle.set_lists.proofs.Parts.{left, over, left_fits, left_written}
 use Rattle.set_lists.proofs.Marks.{mark_set, word_bits_lem, positions_words}
 
 -- ---- a mark word
@@ -30,21 +33,21 @@ word_count : (from w : ℕ) → length (word_positions from w) ≡ ones (w % 2 ^
 word_count from w = ap length (word_positions_lem from w) ∙ positions_ones marks_per_word from (w % 2 ^ marks_per_word) (omega arith)
 
 -- the positions of a word are written but for those of the bits that are left
-pub record WordWritten (from w : ℕ) (b : List ℕ) (at rest : ℕ) (m : List ℕ) (mid : ℕ) : Type 0 where
+pub record WordWritten (from w : ℕ) (b : List ℕ) (rest : ℕ) (m : List ℕ) (mid : ℕ) : Type 0 where
   pub small : rest < 2 ^ marks_per_word
-  pub writing : Writing b at (word_positions from w) (positions_below marks_per_word from rest) m mid
+  pub writing : Writing b 0 (word_positions from w) (positions_below marks_per_word from rest) m mid
 
-pub word_start : (from w : ℕ) (b : List ℕ) (at rest : ℕ) → Fits b at (word_positions from w) → rest ≡ w % 2 ^ marks_per_word
-    → WordWritten from w b at rest b at
-word_start from w b at rest h e =
+pub word_start : (from w : ℕ) (b : List ℕ) (rest : ℕ) → Fits b 0 (word_positions from w) → rest ≡ w % 2 ^ marks_per_word
+    → WordWritten from w b rest b 0
+word_start from w b rest h e =
     record {
       small = omega arith;
-      writing = rest_as (word_positions_lem from w ∙ ap (positions_below marks_per_word from) (sym e)) (starts b at (word_positions from w) h);
+      writing = rest_as (word_positions_lem from w ∙ ap (positions_below marks_per_word from) (sym e)) (starts b 0 (word_positions from w) h);
     }
 
-module _ {from w : ℕ} {b m : List ℕ} {at rest mid : ℕ} (t : WordWritten from w b at rest m mid) where
+module _ {from w : ℕ} {b m : List ℕ} {rest mid : ℕ} (t : WordWritten from w b rest m mid) where
   module _ (some : 0 < rest) where
-    next_bit : Writing b at (word_positions from w) (((from + lowest rest) ∷ []) ++ positions_below marks_per_word from (without_lowest rest)) m mid
+    next_bit : Writing b 0 (word_positions from w) (((from + lowest rest) ∷ []) ++ positions_below marks_per_word from (without_lowest rest)) m mid
     next_bit = rest_as (positions_next marks_per_word from rest some (λ k. digit_below marks_per_word rest k t.small)) t.writing
 
     pub bit_small : {row : ℕ} → row ≡ lowest rest → row < marks_per_word
@@ -54,7 +57,7 @@ module _ {from w : ℕ} {b m : List ℕ} {at rest mid : ℕ} (t : WordWritten fr
     bit_fits = omega (arith, fits_next ((from + lowest rest) ∷ []) (positions_below marks_per_word from (without_lowest rest)) next_bit)
 
     pub bit_turn : {row left : ℕ} → row ≡ lowest rest → left ≡ without_lowest rest
-        → WordWritten from w b at left (set m mid (from + row)) (mid + 1)
+        → WordWritten from w b left (set m mid (from + row)) (mid + 1)
     bit_turn {row} {left} e g =
         rw (e, g)
         (record {
@@ -62,7 +65,7 @@ module _ {from w : ℕ} {b m : List ℕ} {at rest mid : ℕ} (t : WordWritten fr
           writing = turns (positions_below marks_per_word from (without_lowest rest)) next_bit (one_written m mid (from + lowest rest) bit_fits);
         })
 
-  pub word_end : rest ≡ 0 → Written b at (word_positions from w) m mid
+  pub word_end : rest ≡ 0 → Written b 0 (word_positions from w) m mid
   word_end e = ends (rest_as (ap (positions_below marks_per_word from) e ∙ positions_none marks_per_word from) t.writing)
 
 -- ---- mark words
@@ -87,61 +90,47 @@ marked_end marks i h = ap (λ (l : List ℕ). positions_of (marks_per_word * i) 
 pub members_few : (m : ℕ) (words : List ℕ) → length (positions_in m words) ≤ marks_per_word * m
 members_few m words = omega (arith, positions_count 0 (set_in m words), marks_count (marks_per_word * m) words)
 
--- the positions of the words before i are counted
-pub record MarksCounted (marks : List ℕ) (i members : ℕ) : Type 0 where
-  pub count : i ≤ length marks
-  pub sum : members + length (marked_from marks i) ≡ length (positions_in (length marks) marks)
-
-pub counted_none : (marks : List ℕ) → MarksCounted marks 0 0
-counted_none marks = record { count = omega arith; sum = omega arith }
-
-module _ {marks : List ℕ} {i members : ℕ} (t : MarksCounted marks i members) where
-  module _ (h : i < length marks) {low more : ℕ} (d : low ≡ get_or marks i 0 % 2 ^ marks_per_word) (e : more ≡ ones low) where
-    counted_next : members + more + length (marked_from marks (i + 1)) ≡ length (positions_in (length marks) marks)
-    counted_next =
-        omega (
-          arith,
-          t.sum,
-          ap length (marked_next marks i h),
-          length-append (word_positions (marks_per_word * i) (get_or marks i 0)) (marked_from marks (i + 1)),
-          word_count (marks_per_word * i) (get_or marks i 0),
-          e ∙ ap ones d,
-        )
-
-    pub counted_few : members + more ≤ marks_per_word * length marks
-    counted_few = omega (arith, counted_next, members_few (length marks) marks)
-
-    pub counted_turn : MarksCounted marks (i + 1) (members + more)
-    counted_turn = record { count = omega arith; sum = counted_next }
-
-  pub counted_all : length marks ≤ i → members ≡ length (positions_in (length marks) marks)
-  counted_all h = omega (arith, t.sum, ap length (marked_end marks i h))
+-- as many as the words have ones together
+pub members_count : (from : ℕ) (marks : List ℕ)
+    → length (positions_of from (mark_set marks)) ≡ sum_by (λ w. ones (w % 2 ^ marks_per_word)) marks
+unfolding marks_in tabulate positions_of
+members_count from [] = refl
+members_count from (w ∷ marks) =
+    ap length (positions_words from w marks)
+    ∙ omega (
+      arith,
+      length-append (word_positions from w) (positions_of (from + marks_per_word) (mark_set marks)),
+      word_count from w,
+      members_count (from + marks_per_word) marks,
+      sum_by-cons (λ w. ones (w % 2 ^ marks_per_word)) w marks,
+    )
 
 -- the positions of the words before i are written
-pub record MarksWritten (marks b : List ℕ) (at i from : ℕ) (m : List ℕ) (mid : ℕ) : Type 0 where
-  pub count : i ≤ length marks
-  pub first : from ≡ marks_per_word * i
-  pub writing : Writing b at (positions_in (length marks) marks) (marked_from marks i) m mid
+pub record MarksWritten (marks b : List ℕ) (i : ℕ) (m : List ℕ) (mid : ℕ) : Type 0 where
+  pub writing : Writing b 0 (positions_in (length marks) marks) (marked_from marks i) m mid
 
-pub marks_start : (marks b : List ℕ) (at : ℕ) → Fits b at (positions_in (length marks) marks) → MarksWritten marks b at 0 0 b at
-marks_start marks b at h =
-    record { count = omega arith; first = refl; writing = starts b at (positions_in (length marks) marks) h }
+pub marks_start : (marks b : List ℕ) → Fits b 0 (positions_in (length marks) marks) → MarksWritten marks b 0 b 0
+marks_start marks b h = record { writing = starts b 0 (positions_in (length marks) marks) h }
 
-module _ {marks b m : List ℕ} {at i from mid : ℕ} (t : MarksWritten marks b at i from m mid) where
-  module _ (h : i < length marks) where
-    next_word : Writing b at (positions_in (length marks) marks) (word_positions from (get_or marks i 0) ++ marked_from marks (i + 1)) m mid
+module _ {marks b m : List ℕ} {i mid : ℕ} (t : MarksWritten marks b i m mid) where
+  module _ (h : i < length marks) (w : ℕ) (e : w ≡ get_or marks i 0) where
+    abbrev here : List ℕ
+    here = word_positions (marks_per_word * i) w
+
+    next_word : Writing b 0 (positions_in (length marks) marks) (here ++ marked_from marks (i + 1)) m mid
     next_word =
         rest_as
-        (marked_next marks i h ∙ ap (λ (k : ℕ). word_positions k (get_or marks i 0) ++ marked_from marks (i + 1)) (sym t.first))
+        (marked_next marks i h ∙ ap (λ (x : ℕ). word_positions (marks_per_word * i) x ++ marked_from marks (i + 1)) (sym e))
         t.writing
 
-    pub word_fits : Fits m mid (word_positions from (get_or marks i 0))
-    word_fits = fits_next (word_positions from (get_or marks i 0)) (marked_from marks (i + 1)) next_word
+    word_room : Fits m mid here
+    word_room = fits_next here (marked_from marks (i + 1)) next_word
 
-    pub word_turn : {a : List ℕ} {stop : ℕ} → Written m mid (word_positions from (get_or marks i 0)) a stop
-        → MarksWritten marks b at (i + 1) (from + marks_per_word) a stop
-    word_turn q =
-        record { count = omega arith; first = omega (arith, t.first); writing = turns (marked_from marks (i + 1)) next_word q }
+    pub word_fits : Fits (left mid m) 0 here
+    word_fits = left_fits m mid here word_room
 
-  pub marks_end : length marks ≤ i → Written b at (positions_in (length marks) marks) m mid
+    pub word_turn : {a : List ℕ} {n : ℕ} → Written (left mid m) 0 here a n → MarksWritten marks b (i + 1) (over mid m a) (mid + n)
+    word_turn q = record { writing = turns (marked_from marks (i + 1)) next_word (left_written m mid here word_room q) }
+
+  pub marks_end : length marks ≤ i → Written b 0 (positions_in (length marks) marks) m mid
   marks_end h = ends (rest_as (marked_end marks i h) t.writing)

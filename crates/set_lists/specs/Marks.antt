@@ -1,10 +1,9 @@
 -- What a mark word says where it is one of several: its positions, counted from the first that it holds.
 use Rattle.std.specs.Prelude.{ℕ, Bool, ◌&&◌, eqb, ltb, length}
 use mathlib.Core.List.{List, [], ◌∷◌, map, flatten}
-use Rattle.definitions.specs.Limits.{mark_words, set_width}
+use Rattle.definitions.specs.Limits.{mark_words}
 use Rattle.definitions.specs.Lists.{all}
 use Rattle.definitions.specs.Word.{kind_of}
-use Rattle.definitions.specs.Image.{rows_in}
 use Rattle.definitions.specs.Reading.{set_in, positions_of, positions_in}
 use Rattle.definitions.specs.ReadBack.{are_mark_words, read_record}
 
@@ -20,6 +19,6 @@ is_mark_word from rows w = eqb (kind_of w) 2 && all (λ p. ltb p rows) (word_pos
 abbrev pub marks_fit : ℕ → List ℕ → Bool
 marks_fit rows marks = are_mark_words marks && all (λ p. ltb p rows) (positions_in (length marks) marks)
 
--- the words that are written of the first n records
-abbrev pub records_words : List ℕ → ℕ → List ℕ
-records_words records n = flatten (map (read_record mark_words) (rows_in set_width n records))
+-- the words that are written of records
+abbrev pub entries : List (List ℕ) → List ℕ
+entries records = flatten (map (read_record mark_words) records)

@@ -1,5 +1,5 @@
 -- The records of a set list, made of sets as bits and of the positions of their joined rows.
-use Rattle.std.specs.Prelude.{List, [], ◌∷◌, ℕ, ◌≤◌, length, take}
+use Rattle.std.specs.Prelude.{List, [], ◌∷◌, ℕ, ◌≤◌, ◌≡◌, length}
 use Rattle.definitions.specs.Limits.{mark_words, max_sets}
 use Rattle.definitions.specs.SetList.{record_of}
 use Rattle.rows.specs.Indices.{Below}
@@ -10,9 +10,8 @@ records_of [] positions = []
 records_of (set ∷ sets) [] = []
 records_of (set ∷ sets) (position ∷ positions) = record_of mark_words set position ∷ records_of sets positions
 
--- so many sets, each with a position, as a set list can hold
-pub record Listable (sets positions : List ℕ) (count : ℕ) : Type 0 where
-  pub few : count ≤ max_sets
-  pub enough_sets : count ≤ length sets
-  pub enough_positions : count ≤ length positions
-  pub small : Below max_sets (take count positions)
+-- as many sets as a set list can hold, each with a position
+pub record Listable (sets positions : List ℕ) : Type 0 where
+  pub few : length sets ≤ max_sets
+  pub paired : length positions ≡ length sets
+  pub small : Below max_sets positions

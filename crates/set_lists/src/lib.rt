@@ -7,5 +7,9 @@ mod order;
 mod read;
 mod write;
 
+use definitions::SET_WIDTH;
 pub use read::read_set_list;
 pub use write::write_list;
+
+// A record: the mark words of a set, and the word with the position of its joined row.
+pub(crate) type Record = [u32; SET_WIDTH];

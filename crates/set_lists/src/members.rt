@@ -1,12 +1,14 @@
 // The members of sets as positions: how many words they take, and their writing.
-ghost use Rattle.std.specs.Prelude.{◌≡◌, ◌+◌, ◌*◌, ◌^◌, ◌≤◌, ◌<◌, length};
-ghost use Rattle.definitions.specs.Limits.{max_sets, mark_words, set_width};
+ghost use Rattle.std.specs.Prelude.{◌≡◌, map, ◌^◌, ◌≤◌, ◌<◌, length};
+ghost use mathlib.Core.List.{flatten};
+ghost use Rattle.definitions.specs.Limits.{max_sets, mark_words};
 ghost use Rattle.definitions.specs.Reading.{positions_in};
 ghost use Rattle.definitions.specs.ReadBack.{read_record};
 ghost use Rattle.lists.specs.Written.{Fits, Written};
-ghost use Rattle.set_lists.specs.Marks.{word_positions, records_words};
+ghost use Rattle.set_lists.specs.Marks.{word_positions, entries};
 
-use definitions::{MARK_WORDS, MARKS_PER_WORD, SET_WIDTH};
+use crate::Record;
+use definitions::{MARK_WORDS, MARKS_PER_WORD};
 use words::low_bits;
 
 // How many positions mark words mark.
@@ -14,94 +16,73 @@ fn count_members(marks: &[u32]) -> u32
     requires { length marks.now ≤ mark_words }
     ensures { result ≡ length (positions_in (length marks.now) marks.now) }
 {
-    let mut members = 0;
-    let mut i = 0;
-    while i < marks.len() {
-        members += u32::count_ones(low_bits(marks[i]));
-        i += 1;
-    }
-    members
+    marks.iter().map(|w| low_bits(*w).count_ones()).sum()
 }
 
-// How many words are written of `count` records.
-pub(crate) fn count_words(records: &[u32], count: usize) -> usize
-    requires { (count ≤ max_sets) × (count * set_width ≤ length records.now) }
-    ensures { result ≡ length (records_words records.now count) }
+// How many words are written of a record.
+fn count_entry(set: &Record) -> usize
+    ensures { result ≡ length (read_record mark_words set.now) }
 {
-    let mut total = 0;
-    let mut start = 0;
-    let mut i = 0;
-    while i < count {
-        let marks = start + MARK_WORDS;
-        total += 2 + count_members(&records[start..marks]) as usize;
-        start += SET_WIDTH;
-        i += 1;
-    }
-    total
+    2 + count_members(&set[..MARK_WORDS]) as usize
 }
 
-// Writes the positions that a mark word marks from word `at`; its first position is `from`.
-fn write_positions(w: u32, from: u32, out: &mut [u32], at: usize) -> usize
-    requires { Fits out.old at (word_positions from w) × (from < 2 ^ 16) }
-    ensures { Written out.old at (word_positions from w) out.new result }
+// How many words are written of records.
+pub(crate) fn count_words(records: &[Record]) -> usize
+    requires { length records.now ≤ max_sets }
+    ensures { result ≡ length (entries records.now) }
+{
+    records.iter().map(count_entry).sum()
+}
+
+// Writes the positions that a mark word marks, of which the first is `from`, over the front of `out`: so many.
+fn write_positions(w: u32, from: u32, out: &mut [u32]) -> usize
+    requires { Fits out.old 0 (word_positions from w) × (from < 2 ^ 16) }
+    ensures { Written out.old 0 (word_positions from w) out.new result }
 {
     let mut rest = low_bits(w) as u64;
-    let mut end = at;
+    let mut count = 0;
+    // By the bits that are left: with an iterator of them, the index into `out` would stay.
     while rest != 0 {
-        out[end] = from + bitsets::lowest_row(rest) as u32;
+        out[count] = from + bitsets::lowest_row(rest) as u32;
         rest = bitsets::without_lowest(rest);
-        end += 1;
+        count += 1;
     }
-    end
+    count
 }
 
-// Writes the positions that mark words mark.
-fn write_members(marks: &[u32], out: &mut [u32], at: usize) -> usize
+// Writes the positions that mark words mark over the front of `out`: so many.
+fn write_members(marks: &[u32], out: &mut [u32]) -> usize
     requires marks_len_bound { length marks.now ≤ mark_words }
-    requires fits { Fits out.old at (positions_in (length marks.now) marks.now) }
-    ensures { Written out.old at
-        (positions_in (length marks.now) marks.now) out.new result }
+    requires fits { Fits out.old 0 (positions_in (length marks.now) marks.now) }
+    ensures { Written out.old 0 (positions_in (length marks.now) marks.now) out.new result }
 {
-    let mut end = at;
-    let mut from = 0;
-    let mut i = 0;
-    while i < marks.len() {
-        end = write_positions(marks[i], from, out, end);
-        from += MARKS_PER_WORD as u32;
-        i += 1;
+    let mut count = 0;
+    for (i, w) in marks.iter().enumerate() {
+        let from = (MARKS_PER_WORD * i) as u32;
+        count += write_positions(*w, from, &mut out[count..]);
     }
-    end
+    count
 }
 
-// Writes the number of members, their positions, and the position of the joined row.
-fn write_entry(set: &[u32], out: &mut [u32], at: usize) -> usize
-    requires set_len { length set.now ≡ set_width }
-    requires fits { Fits out.old at (read_record mark_words set.now) }
-    ensures { Written out.old at
-        (read_record mark_words set.now) out.new result }
+// Writes the number of members, their positions, and the position of the joined row over the front of `out`: so many words.
+fn write_entry(set: &Record, out: &mut [u32]) -> usize
+    requires { Fits out.old 0 (read_record mark_words set.now) }
+    ensures { Written out.old 0 (read_record mark_words set.now) out.new result }
 {
-    let marks = &set[..MARK_WORDS];
-    out[at] = count_members(marks);
-    let end = write_members(marks, out, at + 1);
-    out[end] = low_bits(set[MARK_WORDS]);
-    end + 1
+    let members = write_members(&set[..MARK_WORDS], &mut out[1..]);
+    out[0] = members as u32;
+    out[1 + members] = low_bits(set[MARK_WORDS]);
+    2 + members
 }
 
-// Writes these words of each of `count` records, over the front of the buffer.
-pub(crate) fn write_entries(records: &[u32], count: usize, out: &mut [u32]) -> usize
-    requires set_width_in_bounds { count * set_width ≤ length records.now }
-    requires fits { Fits out.old 0 (records_words records.now count) }
-    ensures { Written out.old 0
-        (records_words records.now count) out.new result }
+// Writes these words of each record over the front of `out`: so many.
+pub(crate) fn write_entries(records: &[Record], out: &mut [u32]) -> usize
+    requires { Fits out.old 0 (entries records.now) }
+    ensures { Written out.old 0 (entries records.now) out.new result }
 {
-    let mut end = 0;
-    let mut start = 0;
-    let mut i = 0;
-    while i < count {
-        let stop = start + SET_WIDTH;
-        end = write_entry(&records[start..stop], out, end);
-        start = stop;
-        i += 1;
+    let mut count = 0;
+    for set in records {
+        count += write_entry(set, &mut out[count..]);
     }
-    end
+    count
 }

@@ -2,14 +2,16 @@
 use mathlib.Core.Path.{◌≡◌, refl, sym, ◌∙◌, ap, ap₂, subst}
 use mathlib.Core.Bool.{Bool, true, false, not, ◌||◌}
 use mathlib.Core.Logic.{◌⊎◌}
-use mathlib.Core.List.{List, [], ◌∷◌, ◌++◌, map, append-nil, append_assoc}
-use Prim.Native.Nat.{ℕ, ◌+◌, ◌-◌, ◌≤◌, ◌<◌}
+use mathlib.Core.List.{List, [], ◌∷◌, ◌++◌, map}
+use Prim.Native.Nat.{ℕ, ◌+◌, ◌≤◌, ◌<◌}
 use native.Mathlib.Numerals.{add-one}
 use native.Mathlib.Omega.{arith}
 use lib.Dec.{eqb}
-use lib.ListN.{length, get_or, set, take, drop, length-set, length-map}
-use lib.Seq.{paste, take_all, take-take, take-append-le, take-set-le, take-suc-set, length-take-le}
-use Rattle.definitions.specs.Limits.{max_columns, max_rows, max_ids}
+use lib.ListN.{length, get_or, set, take, length-map}
+use lib.Seq.{take_all, take-suc-set, take-append-add}
+use borrow.Author.Tests.{eqb-true, eqb-false, eq-eqb, ne_eqb}
+use Rattle.std.specs.List.{list_any}
+use Rattle.definitions.specs.Limits.{max_columns, max_rows}
 use Rattle.definitions.specs.Lists.{any, filter, distinct}
 use Rattle.definitions.specs.Word.{id_of}
 use Rattle.definitions.specs.Image.{column_count, column_words, image_ids}
@@ -17,89 +19,62 @@ use Rattle.definitions.specs.Ascending.{ascending}
 use Rattle.definitions.specs.OuterUnion.{compare_word, union_ids, marks, union_column, union_columns}
 use Rattle.definitions.specs.Questions.{image_number}
 use Rattle.definitions.specs.Statements.{Member}
-use Rattle.definitions.proofs.Lists.{keep_took, filter_left, member-get}
+use Rattle.definitions.proofs.Bools.{bool_cases}
+use Rattle.definitions.proofs.Lists.{keep_took, filter_left, filter-all, member-get}
 use Rattle.definitions.proofs.Ascending.{ascending-has, ascending_only}
 use Rattle.definitions.proofs.Orders.{words}
 use Rattle.definitions.proofs.Questions.{passed_is}
 use Rattle.definitions.proofs.Images.{passed_ids}
 use Rattle.definitions.proofs.Unions.{ids_are}
 use Rattle.definitions.proofs.UnionColumns.{small_ids}
-use Rattle.images.proofs.Parts.{columns_part}
-use Rattle.lists.proofs.Pastes.{paste_front}
-use Rattle.tables.specs.UnionIds.{with_new, in_order, BothIds, ColumnIds, ColumnsWith, Markable, MarksAdded}
+use Rattle.tables.specs.UnionIds.{new_ids, with_new, in_order, BothIds, ColumnIds, ColumnsWith, Markable, MarksAdded}
 use Rattle.tables.proofs.Smaller.{distinct_count, new_distinct, new_ascending}
 
--- ---- the loop: i ids are looked at, and those that are new stand after the first m
+eqb_comm : (x y : ℕ) → eqb x y ≡ eqb y x
+eqb_comm x y =
+    bool_cases (eqb y x)
+    (λ e. eq-eqb x y (sym (eqb-true y x e)) ∙ sym e) (λ e. ne_eqb x y (λ q. eqb-false y x e (sym q)) ∙ sym e)
 
-pub record Adding (ids₀ : List ℕ) (m : ℕ) (more : List ℕ) (n i : ℕ) (ids : List ℕ) : Type 0 where
-  pub size : length ids ≡ length ids₀
-  pub looked : i ≤ length more
-  pub some : m ≤ n
-  pub few : n ≤ m + i
-  pub are : take n ids ≡ with_new (take m ids₀) (take i more)
+-- ---- the loop: i ids are looked at, and those that are not known are kept
 
-module _ (ids₀ : List ℕ) (m : ℕ) (more : List ℕ) (room : m + length more ≤ length ids₀) where
-  abbrev new : ℕ → Bool
-  new id = not (any (eqb id) (take m ids₀))
+abbrev unknown : List ℕ → ℕ → Bool
+unknown known id = not (any (eqb id) known)
 
-  pub adding_none : Adding ids₀ m more m 0 ids₀
+-- a test by the library's words
+pub known_told : (known : List ℕ) (id : ℕ) → list_any (λ y. eqb y id) known ≡ any (eqb id) known
+unfolding any
+known_told [] id = refl
+known_told (x ∷ known) id = ap₂ (λ (a b : Bool). a || b) (eqb_comm x id) (known_told known id)
+
+module _ (known more : List ℕ) where
+  -- n of the first i ids are kept
+  pub record Adding (i n : ℕ) (ids : List ℕ) : Type 0 where
+    pub few : n ≤ i
+    pub are : take n ids ≡ new_ids known (take i more)
+
+  pub adding_none : (ids : List ℕ) → Adding 0 0 ids
   unfolding filter
-  adding_none = record { size = refl; looked = omega arith; some = omega arith; few = omega arith; are = sym (append-nil (take m ids₀)) }
+  adding_none ids = record { few = omega arith; are = refl }
 
-  module _ (n i : ℕ) (ids : List ℕ) (s : Adding ids₀ m more n i ids) (h : i < length more) (d v n' : ℕ) (ev : v ≡ get_or more i d) where
-    known_kept : take m ids ≡ take m ids₀
-    known_kept =
-        let e = length-take-le m ids₀ (omega arith) in
-        sym (take-take m n ids s.some) ∙ ap (take m) s.are ∙ take-append-le m (take m ids₀) (filter new (take i more)) (omega arith)
-        ∙ take_all m (take m ids₀) (omega arith)
-
-    test : (b : Bool) → any (eqb v) (take m ids) ≡ b → new (get_or more i d) ≡ not b
-    test b e = ap not (ap₂ (λ (x : ℕ) (l : List ℕ). any (eqb x) l) (sym ev) (sym known_kept) ∙ e)
-
-    pub adding_known : any (eqb v) (take m ids) ≡ true → n' ≡ n → Adding ids₀ m more n' (i + 1) (set ids n v)
-    adding_known e q = record {
-      size = length-set ids n v ∙ s.size;
-      looked = omega arith;
-      some = omega (arith, s.some);
+  module _ {i n : ℕ} {ids : List ℕ} (s : Adding i n ids) (h : i < length more) (id : ℕ) (at : id ≡ get_or more i id) where
+    pub adding_known : any (eqb id) known ≡ true → Adding (i + 1) n ids
+    adding_known e = record {
       few = omega (arith, s.few);
-      are = ap (λ (k : ℕ). take k (set ids n v)) q ∙ take-set-le n ids n v (omega arith) ∙ s.are
-          ∙ ap (λ (l : List ℕ). take m ids₀ ++ l) (sym (filter_left new d more i h (test true e)));
+      are = s.are ∙ sym (filter_left (unknown known) id more i h (ap (unknown known) (sym at) ∙ ap not e));
     }
 
-    pub adding_new : any (eqb v) (take m ids) ≡ false → n' ≡ n + 1 → Adding ids₀ m more n' (i + 1) (set ids n v)
-    adding_new e q =
-        let z = s.size in
+    pub adding_new : any (eqb id) known ≡ false → length more ≤ length ids → Adding (i + 1) (n + 1) (set ids n id)
+    adding_new e room =
         let f = s.few in
         record {
-          size = length-set ids n v ∙ s.size;
-          looked = omega arith;
-          some = omega (arith, s.some);
-          few = omega (arith, s.few);
-          are = ap (λ (k : ℕ). take k (set ids n v)) (q ∙ add-one n) ∙ take-suc-set ids n v (omega arith)
-              ∙ ap₂ (λ (l : List ℕ) (x : ℕ). l ++ (x ∷ [])) s.are ev
-              ∙ append_assoc (take m ids₀) (filter new (take i more)) (get_or more i d ∷ [])
-              ∙ ap (λ (l : List ℕ). take m ids₀ ++ l) (sym (keep_took new d more i h (test false e)));
+          few = omega arith;
+          are = ap (λ (k : ℕ). take k (set ids n id)) (add-one n) ∙ take-suc-set ids n id (omega arith)
+              ∙ ap₂ (λ (l : List ℕ) (x : ℕ). l ++ (x ∷ [])) s.are at
+              ∙ sym (keep_took (unknown known) id more i h (ap (unknown known) (sym at) ∙ ap not e));
         }
 
-  pub adding_all : (n i : ℕ) (ids : List ℕ) → Adding ids₀ m more n i ids → length more ≤ i → take n ids ≡ with_new (take m ids₀) more
-  adding_all n i ids s h = s.are ∙ ap (with_new (take m ids₀)) (take_all i more h)
-
--- ---- the column words of an accepted image, as code lends them
-
-pub record Columns (k : ℕ) (image part : List ℕ) : Type 0 where
-  pub size : length part ≡ k
-  pub ids : map id_of part ≡ image_ids image
-  pub few : k ≤ max_columns
-
-pub columns_of : (image : List ℕ) (k : ℕ) → image_number max_rows image ≡ 0 → k ≡ column_count image → Columns k image (take (1 + k - 1) (drop 1 image))
-columns_of image k ok e =
-    let p = (passed_is max_rows image).0 ok in
-    let part = columns_part k image e in
-    record {
-      size = sym (length-map (take (1 + k - 1) (drop 1 image)) id_of) ∙ ap (λ (l : List ℕ). length (map id_of l)) part ∙ passed_ids max_rows image p ∙ sym e;
-      ids = ap (map id_of) part;
-      few = omega (arith, p.few_columns);
-    }
+  pub adding_all : {i n : ℕ} {ids : List ℕ} → Adding i n ids → length more ≤ i → take n ids ≡ new_ids known more
+  adding_all {i} s end = s.are ∙ ap (new_ids known) (take_all i more end)
 
 -- the ids of the first image and the new ones of the second are the ids of both, each once
 both_ids : (a b : List ℕ) → image_number max_rows a ≡ 0 → image_number max_rows b ≡ 0 → (all : List ℕ) → all ≡ with_new (image_ids a) (image_ids b) → BothIds a b all
@@ -110,18 +85,14 @@ both_ids a b oa ob all e = record {
   union = ap (ascending compare_word) e ∙ new_ascending (image_ids a) (image_ids b);
 }
 
--- the ids of two images, as the code writes them
-pub both_added : (all x y a b p q : List ℕ) (k m r : ℕ) → Columns k a p → Columns m b q → x ≡ paste all 0 (map id_of p) (length p)
-    → take r y ≡ with_new (take k x) (map id_of q) → r ≤ k + length q → image_number max_rows a ≡ 0 → image_number max_rows b ≡ 0
-    → BothIds a b (take r y) × (r ≤ max_ids)
-both_added all x y a b p q k m r u v ex ey few oa ob =
-    let f = u.few in
-    let g = v.few in
-    let z = v.size in (
-      both_ids a b oa ob (take r y)
-          (ey ∙ ap₂ with_new (paste_front all (map id_of p) x k (length-map p id_of ∙ u.size) (ex ∙ ap (paste all 0 (map id_of p)) u.size) ∙ u.ids) v.ids),
-      omega arith,
-    )
+-- the ids of two images, as the code writes them: those of the first, and behind them the new ones of the second
+pub both_added : (a b x y : List ℕ) (k m : ℕ) → x ≡ new_ids [] (image_ids a) → take m y ≡ new_ids x (image_ids b) → length x ≡ k
+    → image_number max_rows a ≡ 0 → image_number max_rows b ≡ 0 → BothIds a b (take (k + m) (x ++ y))
+unfolding any
+both_added a b x y k m ex ey size oa ob =
+    let first : x ≡ image_ids a = ex ∙ filter-all (unknown []) (image_ids a) (λ id h. refl) in
+    both_ids a b oa ob (take (k + m) (x ++ y))
+    (ap (λ (j : ℕ). take (j + m) (x ++ y)) (sym size) ∙ take-append-add x y m ∙ ap₂ (λ (l r : List ℕ). l ++ r) first (ey ∙ ap (λ (l : List ℕ). new_ids l (image_ids b)) first))
 
 -- a table's columns are as many as the ids
 pub both_count : (a b all : List ℕ) → BothIds a b all → length (union_ids a b) ≡ length all
@@ -137,20 +108,28 @@ found_ids a b all d few = record {
 
 -- the column words of either image can mark them
 pub markable : (a b all : List ℕ) → BothIds a b all → length all ≤ max_columns → (image part : List ℕ) → part ≡ column_words image
-    → ((id : ℕ) → Member id (image_ids image) → Member id (image_ids a) ⊎ Member id (image_ids b)) → (ids : List ℕ) → length ids ≡ max_columns
+    → ((id : ℕ) → Member id (image_ids image) → Member id (image_ids a) ⊎ Member id (image_ids b)) → (ids : List ℕ) → length ids ≡ length all
     → Markable part all ids
 markable a b all d few image part e either ids size = record {
   union = found_ids a b all d few;
   known = λ id h.
       ascending_only words id all
       (subst (Member id) (sym d.union) ((ids_are a b id).1 (either id (subst (λ (l : List ℕ). Member id (map id_of l)) e h))));
-  room = size;
+  words = size;
 }
 
 -- unmarked column words of these ids that have got the marks of both images are the union's
 pub union_marked : (a b all : List ℕ) → BothIds a b all → (first second x y z : List ℕ) → first ≡ column_words a → second ≡ column_words b
-    → ColumnsWith (λ id. false) all x → MarksAdded first all x y → MarksAdded second all y z → take (length all) z ≡ union_columns a b
+    → ColumnsWith (λ id. false) all x → MarksAdded first all x y → MarksAdded second all y z → z ≡ union_columns a b
 unfolding union_columns
 union_marked a b all d first second x y z ea eb unmarked one two =
-    two.each (λ id. false || marks first id) (one.each (λ id. false) unmarked)
+    two (λ id. false || marks first id) (one (λ id. false) unmarked)
     ∙ ap₂ (λ (p q : List ℕ). map (union_column p q) (in_order all)) ea eb ∙ ap (map (union_column (column_words a) (column_words b))) d.union
+
+-- an image has as many column words as its header says, and few
+pub words_count : (image : List ℕ) → image_number max_rows image ≡ 0 → (part : List ℕ) → part ≡ column_words image → length part ≡ column_count image
+words_count image ok part e =
+    sym (length-map part id_of) ∙ ap (λ (l : List ℕ). length (map id_of l)) e ∙ passed_ids max_rows image ((passed_is max_rows image).0 ok)
+
+pub words_few : (image : List ℕ) → image_number max_rows image ≡ 0 → (part : List ℕ) → part ≡ column_words image → length part ≤ max_columns
+words_few image ok part e = omega (arith, words_count image ok part e, ((passed_is max_rows image).0 ok).few_columns)

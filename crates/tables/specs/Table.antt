@@ -1,7 +1,6 @@
 -- What a table in work holds, and what is written into it.
-use Rattle.std.specs.Prelude.{◌≡◌, true, ℕ, ◌+◌, ◌*◌, ◌≤◌, eqb, length, get_or, take}
+use Rattle.std.specs.Prelude.{◌≡◌, true, ℕ, ◌*◌, ◌≤◌, eqb, length, get_or, take}
 use mathlib.Core.List.{List, ◌++◌, flatten}
-use Rattle.std.proofs.Math.Seq.{paste}
 use Rattle.definitions.specs.Lists.{distinct}
 use Rattle.definitions.specs.Limits.{max_columns, max_rows, max_union_rows}
 use Rattle.definitions.specs.Image.{rows_in, row_count}
@@ -21,21 +20,21 @@ pub record Found (a b all : List ℕ) : Type 0 where
   pub ids : BothIds a b all
   pub few : length all ≤ max_columns
 
--- an accepted image, and distinct ids, its own among them
+-- an accepted image, and few distinct ids, its own among them
 pub record Source (image all : List ℕ) : Type 0 where
   pub accepted : image_number max_rows image ≡ 0
   pub differ : distinct eqb all ≡ true
   pub covers : Covers (in_order all) image
+  pub few : length all ≤ max_columns
 
--- the cells from `at` on are empty, and have room for the widened rows of an image
-pub record EmptyFor (image all cells : List ℕ) (at : ℕ) : Type 0 where
-  pub room : at + row_count image * length (in_order all) ≤ length cells
-  pub empty : (k : ℕ) → at ≤ k → get_or cells k 0 ≡ 0
+-- empty cells, as many as the widened rows of an image have
+pub record EmptyFor (image all cells : List ℕ) : Type 0 where
+  pub room : length cells ≡ row_count image * length all
+  pub empty : (k : ℕ) → get_or cells k 0 ≡ 0
 
--- the widened rows of an image are written over the cells from `at`
-abbrev pub Widened : List ℕ → List ℕ → List ℕ → ℕ → List ℕ → Type 0
-Widened image all found at cells =
-    cells ≡ paste found at (flatten (widened_rows (in_order all) image)) (row_count image * length (in_order all))
+-- the cells are the widened rows of an image
+abbrev pub Widened : List ℕ → List ℕ → List ℕ → Type 0
+Widened image all cells = cells ≡ flatten (widened_rows (in_order all) image)
 
 -- n rows of so many cells, and the cells of a table to write them to
 pub record Unordered (width n : ℕ) (wide cells : List ℕ) : Type 0 where

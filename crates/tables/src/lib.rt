@@ -2,17 +2,19 @@
 #![tactic(auto)]
 
 ghost use Rattle.std.specs.Prelude.{length};
-ghost use Rattle.tables.specs.Table.{Found, NewTable};
+ghost use Rattle.tables.specs.Table.{NewTable};
 
 mod columns;
+mod image;
 mod union;
 mod widen;
 
 pub use columns::both_ids;
 use columns::union_columns;
-pub use union::{union_rows, widen_both};
+pub use union::Pair;
 
 // A table in work: its cells row by row, its column ids and both counts. With an id stands its mark: `ids` holds the column words.
+// The counts stand beside the arrays, and not in slices of them, by a rule of the project: a table in work is one record by value.
 #[derive(Drop)]
 pub struct Table {
     pub cells: [u32; Table::MAX_CELLS],
@@ -37,15 +39,14 @@ impl Table {
         columns: 0,
     };
 
-    // A table with the union's columns, whose distinct ids are told as they were found; it has no rows, and empty cells.
+    // A table with the union's columns; it has no rows, and empty cells.
     #[inline(always)]
-    pub fn new(a: &[u32], b: &[u32], all: &[u32]) -> Table
-        requires { Found a.now b.now all.now }
-        ensures { NewTable a.now b.now (length all.now) result }
+    pub fn new(pair: &Pair) -> Table
+        ensures { NewTable pair.now.first.now pair.now.second.now (length pair.now.ids.now) result }
     {
         let mut t = Self::EMPTY;
-        union_columns(a, b, all, &mut t.ids);
-        t.columns = all.len();
+        union_columns(pair, &mut t.ids);
+        t.columns = pair.ids.len();
         t
     }
 }

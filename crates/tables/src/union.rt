@@ -7,19 +7,46 @@ ghost use Rattle.definitions.specs.OuterUnion.{compare_row, union_rows};
 ghost use Rattle.tables.specs.Table.{both_rows, Found, Unordered, CellsOf};
 
 use crate::Table;
-use crate::widen::widen_table;
+use crate::image::Image;
+use crate::widen::widen_image;
 
-// Writes the rows of two accepted images, widened to the columns of both, one after the other over empty cells; how many they are.
-pub fn widen_both(a: &[u32], b: &[u32], all: &[u32], cells: &mut [u32; Table::MAX_CELLS]) -> usize
-    requires { Found a.now b.now all.now × ((k : ℕ) → get_or cells.old k 0 ≡ 0) }
-    ensures { CellsOf (both_rows a.now b.now) (length all.now) result
-        cells.new }
-{
-    let first = words::rows(a[0]) as usize;
-    let second = words::rows(b[0]) as usize;
-    widen_table(a, all, cells, 0);
-    widen_table(b, all, cells, first * all.len());
-    first + second
+// Two accepted images, and the ids of both, each once: a table has room for them.
+#[derive(Clone, Copy)]
+pub struct Pair<'a> {
+    pub first: &'a [u32],
+    pub second: &'a [u32],
+    pub ids: &'a [u32],
+    pub ghost found: { Found first.now second.now ids.now },
+}
+
+impl Pair<'_> {
+    // Writes the rows of both images, widened to the columns of both, one after the other over empty cells; how many they are.
+    pub fn widen_both(&self, cells: &mut [u32; Table::MAX_CELLS]) -> usize
+        requires { (k : ℕ) → get_or cells.old k 0 ≡ 0 }
+        ensures { CellsOf (both_rows self.now.first.now self.now.second.now) (length self.now.ids.now)
+            result cells.new }
+    {
+        let a = Image { words: self.first };
+        let b = Image { words: self.second };
+        let width = self.ids.len();
+        let first = a.rows();
+        let second = b.rows();
+        let from = first * width;
+        let end = from + second * width;
+        widen_image(a, self.ids, &mut cells[..from]);
+        widen_image(b, self.ids, &mut cells[from..end]);
+        first + second
+    }
+
+    // Writes T, the distinct widened rows of both images, ascending; how many rows it has.
+    pub fn union_rows(&self, cells: &mut [u32; Table::MAX_CELLS]) -> usize
+        ensures { CellsOf (union_rows self.now.first.now self.now.second.now) (length self.now.ids.now)
+            result cells.new }
+    {
+        let mut wide = [0u32; Table::MAX_CELLS];
+        let count = self.widen_both(&mut wide);
+        order_cells(&wide, self.ids.len(), count, cells)
+    }
 }
 
 // Writes the distinct rows among the first n, ascending; how many they are.
@@ -33,15 +60,4 @@ fn order_cells(wide: &[u32], width: usize, n: usize, cells: &mut [u32]) -> usize
     let m = rows::order_rows(wide, width, n, &mut order, &mut spare);
     rows::write_rows(wide, width, &order, m, cells, 0);
     m
-}
-
-// Writes T, the distinct widened rows of two accepted images, ascending; how many rows it has.
-pub fn union_rows(a: &[u32], b: &[u32], all: &[u32], cells: &mut [u32; Table::MAX_CELLS]) -> usize
-    requires { Found a.now b.now all.now }
-    ensures { CellsOf (union_rows a.now b.now) (length all.now) result
-        cells.new }
-{
-    let mut wide = [0u32; Table::MAX_CELLS];
-    let count = widen_both(a, b, all, &mut wide);
-    order_cells(&wide, all.len(), count, cells)
 }

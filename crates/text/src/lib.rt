@@ -1,100 +1,182 @@
-// Numbers and cells as text. Each function writes a text into a lent buffer from byte `at` on, and answers where the text ends; every other
-// byte stays as it was.
+// Numbers, ids and cells as text, written behind one another into lent bytes.
 #![tactic(auto)]
 
-ghost use Rattle.std.specs.Prelude.{◌+◌, ◌≤◌, [], ◌∷◌, ◌++◌, length};
-ghost use Rattle.definitions.specs.Text.{decimal, cell_text};
-ghost use Rattle.lists.specs.Written.{Fits, Written};
-ghost use Rattle.text.specs.Bytes.{space};
+ghost use Rattle.std.specs.Prelude.{◌≡◌, ℕ, List, [], ◌∷◌, take};
+ghost use Rattle.definitions.specs.Text.{decimal, id_text, cell_text};
+ghost use Rattle.definitions.specs.Page.{blanks};
+ghost use Rattle.text.specs.Bytes.{space, newline, spaced};
+ghost use Rattle.text.specs.Writer.{HasRoom, Wrote};
 
+use lists::write_over;
 use words::low_bits;
 
 // "Fields have one space between them, lines end with byte 10."
 const SPACE: u8 = b' ';
 
-pub const NEWLINE: u8 = b'\n';
+const NEWLINE: u8 = b'\n';
 
 const DIGIT_ZERO: u8 = b'0';
 
-// One byte.
-pub fn put_byte(byte: u8, out: &mut [u8], at: usize) -> usize
-    requires { at + 1 ≤ length out.old }
-    ensures { Written out.old at (byte ∷ []) out.new result }
-{
-    out[at] = byte;
-    at + 1
+// Lent bytes, and how many of them are written, from the first one on. Each method writes a text behind what is written so far; every other
+// byte stays as it was.
+#[derive(Drop)]
+pub struct Writer<'a> {
+    bytes: &'a mut [u8],
+    length: usize,
 }
 
-// The bytes of `text`.
-pub fn put_text(text: &[u8], out: &mut [u8], at: usize) -> usize
-    requires { Fits out.old at text.now }
-    ensures { Written out.old at text.now out.new result }
-{
-    let mut end = at;
-    let mut i = 0;
-    while i < text.len() {
-        out[end] = text[i];
-        end += 1;
-        i += 1;
+impl<'a> Writer<'a> {
+    // Nothing is written yet.
+    pub fn new(bytes: &'a mut [u8]) -> Writer<'a>
+        ensures same_bytes { result.bytes.ghost_name ≡ bytes.entry.ghost_name }
+        ensures found { result.bytes.now ≡ bytes.old }
+        ensures nothing { result.length ≡ 0 }
+    {
+        Writer { bytes, length: 0 }
     }
-    end
-}
 
-// The decimal digits of `n`.
-pub fn put_number(n: usize, out: &mut [u8], at: usize) -> usize
-    requires { Fits out.old at (decimal n) }
-    ensures { Written out.old at (decimal n) out.new result }
-{
-    if n < 10 {
-        return put_byte(DIGIT_ZERO + n as u8, out, at);
+    // How many bytes are written.
+    pub fn length(&self) -> usize
+        ensures { result ≡ self.now.length }
+    {
+        self.length
     }
-    let last = put_number(n / 10, out, at);
-    put_byte(DIGIT_ZERO + (n % 10) as u8, out, last)
-}
 
-// The text of a cell: `-` for the empty cell, else its number.
-pub fn put_cell(cell: u32, out: &mut [u8], at: usize) -> usize
-    requires { Fits out.old at (cell_text cell) }
-    ensures { Written out.old at (cell_text cell) out.new result }
-{
-    if cell == 0 {
-        return put_byte(b'-', out, at);
+    // What is written so far.
+    pub fn written(&self) -> &[u8]
+        requires { HasRoom self.now [] }
+        ensures { result.now ≡ take self.now.length self.now.bytes.now }
+    {
+        &self.bytes[..self.length]
     }
-    put_number(low_bits(cell) as usize, out, at)
+
+    // One byte.
+    fn byte(&mut self, byte: u8)
+        requires { HasRoom self.old (byte ∷ []) }
+        ensures { Wrote self.old (byte ∷ []) self.new }
+    {
+        self.bytes[self.length] = byte;
+        self.length += 1;
+    }
+
+    // The space between two fields.
+    pub fn space(&mut self)
+        requires { HasRoom self.old (space ∷ []) }
+        ensures { Wrote self.old (space ∷ []) self.new }
+    {
+        self.byte(SPACE);
+    }
+
+    // The end of a line.
+    pub fn newline(&mut self)
+        requires { HasRoom self.old (newline ∷ []) }
+        ensures { Wrote self.old (newline ∷ []) self.new }
+    {
+        self.byte(NEWLINE);
+    }
+
+    // So many blanks.
+    pub fn blanks(&mut self, n: usize)
+        requires { HasRoom self.old (blanks n) }
+        ensures { Wrote self.old (blanks n) self.new }
+    {
+        let end = self.length + n;
+        self.bytes[self.length..end].fill(SPACE);
+        self.length = end;
+    }
+
+    // The bytes of `text`. By `copy_from_slice` a page would ask the firmware for `memmove`.
+    pub fn text(&mut self, text: &[u8])
+        requires { HasRoom self.old text.now }
+        ensures { Wrote self.old text.now self.new }
+    {
+        write_over(text, self.bytes, self.length);
+        self.length += text.len();
+    }
+
+    // The decimal digits of `n`.
+    pub fn number(&mut self, n: usize)
+        requires { HasRoom self.old (decimal n) }
+        ensures { Wrote self.old (decimal n) self.new }
+    {
+        if n < 10 {
+            self.byte(DIGIT_ZERO + n as u8);
+        } else {
+            self.number(n / 10);
+            self.byte(DIGIT_ZERO + (n % 10) as u8);
+        }
+    }
+
+    // A space and then a value.
+    fn next<S: Style>(&mut self, value: S::Value)
+        requires { HasRoom self.old (space ∷ S.shown value) }
+        ensures { Wrote self.old (space ∷ S.shown value) self.new }
+    {
+        self.space();
+        S::put(value, self);
+    }
+
+    // For each value a space and then the value.
+    pub fn fields<S: Style>(&mut self, values: &[S::Value])
+        requires { HasRoom self.old (spaced S.shown values.now) }
+        ensures { Wrote self.old (spaced S.shown values.now) self.new }
+    {
+        for value in values {
+            self.next::<S>(*value);
+        }
+    }
 }
 
-// The bytes of `text`, and then a space.
-pub fn text_field(text: &[u8], out: &mut [u8], at: usize) -> usize
-    requires { at + length text.now + 1 ≤ length out.old }
-    ensures { Written out.old at (text.now ++ (space ∷ [])) out.new result }
-{
-    let end = put_text(text, out, at);
-    put_byte(SPACE, out, end)
+// How values are shown.
+pub trait Style {
+    type Value: Copy;
+
+    ghost shown: { Self.Value → List ℕ };
+
+    fn put(value: Self::Value, out: &mut Writer)
+        requires { HasRoom out.old (shown value) }
+        ensures { Wrote out.old (shown value) out.new };
 }
 
-// The decimal digits of `n`, and then a space.
-pub fn number_field(n: usize, out: &mut [u8], at: usize) -> usize
-    requires { at + length (decimal n) + 1 ≤ length out.old }
-    ensures { Written out.old at (decimal n ++ (space ∷ [])) out.new result }
-{
-    let end = put_number(n, out, at);
-    put_byte(SPACE, out, end)
+// A number by its decimal digits.
+pub struct Number;
+
+impl Style for Number {
+    type Value = usize;
+
+    ghost shown = { decimal };
+
+    fn put(value: usize, out: &mut Writer) {
+        out.number(value);
+    }
 }
 
-// A space, and then the decimal digits of `n`.
-pub fn next_number(n: usize, out: &mut [u8], at: usize) -> usize
-    requires { at + 1 + length (decimal n) ≤ length out.old }
-    ensures { Written out.old at (space ∷ decimal n) out.new result }
-{
-    let start = put_byte(SPACE, out, at);
-    put_number(n, out, start)
+// A column word by its id.
+pub struct Id;
+
+impl Style for Id {
+    type Value = u32;
+
+    ghost shown = { id_text };
+
+    fn put(value: u32, out: &mut Writer) {
+        out.number(words::id(value) as usize);
+    }
 }
 
-// A space, and then the text of a cell.
-pub fn next_cell(cell: u32, out: &mut [u8], at: usize) -> usize
-    requires { at + 1 + length (cell_text cell) ≤ length out.old }
-    ensures { Written out.old at (space ∷ cell_text cell) out.new result }
-{
-    let start = put_byte(SPACE, out, at);
-    put_cell(cell, out, start)
+// A cell by its number, and the empty cell by `-`.
+pub struct Cell;
+
+impl Style for Cell {
+    type Value = u32;
+
+    ghost shown = { cell_text };
+
+    fn put(value: u32, out: &mut Writer) {
+        if value == 0 {
+            out.text(b"-");
+        } else {
+            out.number(low_bits(value) as usize);
+        }
+    }
 }

@@ -41,7 +41,7 @@ pub filled_new : {a b all : List ℕ} {rs : List (List ℕ)} {rows : ℕ} {cells
 filled_new f new made cells = filled_table f new made refl refl cells
 
 -- the rows at m indices, and that they can be written
-pub record Result (u : List ℕ) (rows : List (List ℕ)) (t : Table) (order : List ℕ) (m : ℕ) : Type 0 where
+pub record Rows (u : List ℕ) (rows : List (List ℕ)) (t : Table) (order : List ℕ) (m : ℕ) : Type 0 where
   pub can : Writable t.ids t.columns t.cells order m
   pub ids : take t.columns t.ids ≡ u
   pub are : rows_at t.columns t.cells (take m order) ≡ rows
@@ -49,7 +49,7 @@ pub record Result (u : List ℕ) (rows : List (List ℕ)) (t : Table) (order : L
 module _ (a b : List ℕ) {t : Table} {m : ℕ} {order : List ℕ} (within : m ≤ length order) where
   -- the distinct widened rows, ascending, are T
   pub outer_result : TableOf t (union_columns a b) (both_rows a b) → m ≤ t.rows → Ordered t.columns t.rows t.cells (take m order)
-      → Result (union_columns a b) (union_rows a b) t order m
+      → Rows (union_columns a b) (union_rows a b) t order m
   unfolding union_rows
   outer_result h few o = record {
     can = writable h m order few within o.below;
@@ -59,7 +59,7 @@ module _ (a b : List ℕ) {t : Table} {m : ℕ} {order : List ℕ} (within : m �
 
   -- the rows of T that none subsumes are the minimum union
   pub minimum_result : TableOf t (union_columns a b) (union_rows a b) → {pairs : ℕ} → KeptRows t.columns t.rows t.cells order m pairs
-      → Result (union_columns a b) (minimum_rows (union_rows a b)) t order m
+      → Rows (union_columns a b) (minimum_rows (union_rows a b)) t order m
   minimum_result h k = record {
     can = writable h m order k.count within k.below;
     ids = h.ids;

@@ -1,18 +1,17 @@
 -- What the questions 1 to 8 have told of a pair of images, and 10 and 11 of the lent buffers.
-use Rattle.std.specs.Prelude.{◌≡◌, List, ℕ, ◌≤◌, leb, length, take}
-use Rattle.definitions.specs.Answer.{Outcome, unless, no}
+use Rattle.std.specs.Prelude.{◌≡◌, List, ℕ, ◌≤◌, leb, length, take, Result, Ok, ⊤}
+use Rattle.definitions.specs.declared.refusal.Refusal.{Refusal}
+use Rattle.definitions.specs.Answer.{Outcome, unless, no, or_refused}
 use Rattle.definitions.specs.Calls.{pair_outcome}
-use Rattle.tables.specs.Table.{Found}
-use Rattle.unions.specs.declared.questions.Checks.{Checks}
+use Rattle.tables.specs.declared.union.Pair.{Pair}
 
--- the number and the table are those of the first question answered no, and 0 is an accepted pair, whose ids begin the list
-pub record Checked (a b all : List ℕ) (r : Checks) : Type 0 where
-  pub says : (rest : Outcome) → pair_outcome a b rest ≡ unless r.number r.table rest
-  pub within : r.columns ≤ length all
-  pub accepted : r.number ≡ 0 → Found a b (take r.columns all)
+-- the first question answered no, or an accepted pair
+pub record Checked (a b : List ℕ) (r : Result Pair Refusal) : Type 0 where
+  pub says : (rest : Outcome) → pair_outcome a b rest ≡ or_refused r rest
+  pub lends : (pair : Pair) → r ≡ Ok pair → (pair.first.now ≡ a) × (pair.second.now ≡ b)
 
--- the number is that of the first of 10 and 11 answered no, for so many words and so much room, and 0 is room for both
-pub record Roomy (words room words_of_sets sets_room number : ℕ) : Type 0 where
+-- the first of 10 and 11 answered no, for so many words and so much room, or room for both
+pub record Roomy (words room words_of_sets sets_room : ℕ) (r : Result ⊤ Refusal) : Type 0 where
   pub says : (rest : Outcome)
-      → unless (no (leb words room) 10) 2 (unless (no (leb words_of_sets sets_room) 11) 2 rest) ≡ unless number 2 rest
-  pub fits : number ≡ 0 → (words ≤ room) × (words_of_sets ≤ sets_room)
+      → unless (no (leb words room) 10) 2 (unless (no (leb words_of_sets sets_room) 11) 2 rest) ≡ or_refused r rest
+  pub fits : (u : ⊤) → r ≡ Ok u → (words ≤ room) × (words_of_sets ≤ sets_room)

@@ -1,63 +1,57 @@
 // The questions 1 to 8, put to a pair of images, and 10 and 11, put to the lent buffers.
-ghost use Rattle.std.specs.Prelude.{◌≤◌, length};
-ghost use Rattle.definitions.specs.Limits.{max_ids};
+ghost use Rattle.std.specs.Prelude.{◌≡◌, ◌≤◌, length};
+ghost use Rattle.definitions.specs.Limits.{max_ids, max_rows};
+ghost use Rattle.definitions.specs.Questions.{image_number};
+ghost use Rattle.definitions.specs.Refusal.{table_number};
+ghost use Rattle.definitions.specs.Answer.{Outcome, unless, or_refused};
 ghost use Rattle.unions.specs.Questions.{Checked, Roomy};
 
-use definitions::{MAX_COLUMNS, MAX_ROWS};
+use definitions::{MAX_COLUMNS, MAX_ROWS, Question, Refusal, Subject};
+use tables::Pair;
 
-// The number of the first question answered no and its table, or 0 and how many columns the union has.
-#[derive(Drop)]
-pub(crate) struct Checks {
-    pub(crate) number: u32,
-    pub(crate) table: u32,
-    pub(crate) columns: usize,
+// Puts the questions 1 to 7 to one of the tables.
+fn check_source(image: &[u32], subject: Subject) -> Result<(), Refusal>
+    ensures { (rest : Outcome) → unless (image_number max_rows image.now) (table_number subject) rest ≡ or_refused result rest }
+{
+    images::check_image(image, MAX_ROWS as u32).map_err(|question| question.put_to(subject))
 }
 
-// Writes the ids of both images over the list, each once, to count them; an accepted pair's table is made of them.
-pub(crate) fn check_pair(a: &[u32], b: &[u32], all: &mut [u32]) -> Checks
+// Puts the questions 1 to 8; an accepted pair comes with the ids of both images, which are written over the list.
+pub(crate) fn check_pair<'a>(
+    a: &'a [u32],
+    b: &'a [u32],
+    all: &'a mut [u32],
+) -> Result<Pair<'a>, Refusal>
     requires { max_ids ≤ length all.old }
-    ensures { Checked a.now b.now all.new result }
+    ensures { Checked a.now b.now result }
 {
-    let first = images::check_image(a, MAX_ROWS as u32);
-    if first != 0 {
-        return Checks {
-            number: first,
-            table: 0,
-            columns: 0,
-        };
-    }
-    let second = images::check_image(b, MAX_ROWS as u32);
-    if second != 0 {
-        return Checks {
-            number: second,
-            table: 1,
-            columns: 0,
-        };
-    }
+    check_source(a, Subject::First)?;
+    check_source(b, Subject::Second)?;
     let columns = tables::both_ids(a, b, all);
     if MAX_COLUMNS < columns {
-        return Checks {
-            number: 8,
-            table: 2,
-            columns,
-        };
+        return Err(Refusal::from(Question::UnionColumns));
     }
-    Checks {
-        number: 0,
-        table: 2,
-        columns,
-    }
+    Ok(Pair {
+        first: a,
+        second: b,
+        ids: &all[..columns],
+    })
 }
 
-// The questions 10 and 11, for so many words and so much room: the number of the first answered no, or 0.
-pub(crate) fn check_room(words: usize, room: usize, set_words: usize, set_room: usize) -> u32
+// The questions 10 and 11, for so many words and so much room.
+pub(crate) fn check_room(
+    words: usize,
+    room: usize,
+    set_words: usize,
+    set_room: usize,
+) -> Result<(), Refusal>
     ensures { Roomy words room set_words set_room result }
 {
     if room < words {
-        return 10;
+        return Err(Refusal::from(Question::TableRoom));
     }
     if set_room < set_words {
-        return 11;
+        return Err(Refusal::from(Question::SetRoom));
     }
-    0
+    Ok(())
 }

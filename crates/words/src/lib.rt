@@ -45,10 +45,7 @@ pub fn header_spare(w: u32) -> u32
 pub fn is_header(w: u32) -> bool
     ensures { result ≡ is_header w }
 {
-    if kind(w) == 3 {
-        return header_spare(w) == 0;
-    }
-    false
+    kind(w) == 3 && header_spare(w) == 0
 }
 
 // Bits 15 to 0 of a column word.
@@ -76,12 +73,10 @@ pub fn column_spare(w: u32) -> u32
 pub fn is_cell(w: u32) -> bool
     ensures { result ≡ is_cell w }
 {
-    let k = w >> 30;
-    match k {
+    match kind(w) {
         0 => w == 0,
         1 => true,
-        2..=3 => false,
-        _ => false,
+        2.. => false,
     }
 }
 
@@ -106,8 +101,5 @@ pub fn column_word(id: u32, marked: bool) -> u32
     requires { id < 2 ^ 16 }
     ensures { result ≡ column_word id marked }
 {
-    if marked {
-        return word_of(2, (1 << 29) | id);
-    }
-    word_of(2, id)
+    word_of(2, (u32::from(marked) << 29) | id)
 }

@@ -1,34 +1,16 @@
 -- `fusion_minimum_union` gives the answer of `minimum_union` as words: its counts fit them.
-use mathlib.Core.Path.{sym, ◌∙◌, ap}
-use mathlib.Core.List.{List, [], ◌∷◌}
-use Prim.Native.Nat.{ℕ}
-use lib.ListN.{length}
 use borrow.Author.Rules.{rules}
-use Rattle.definitions.specs.Answer.{minimum_says}
-use Rattle.fusion_c.proofs.Bounds.{FitWords, minimum_fits}
+use Rattle.fusion_c.proofs.Bounds.{minimum_told}
 use Rattle.fusion_c.proofs.fusion_minimum_union.Goals as goal
-use Rattle.fusion_c.proofs.fusion_minimum_union.Goals.{In-Done}
-
-module _ (c : In-Done) where
-  -- the counts of a done answer
-  abbrev counts : List ℕ
-  counts = c.in-Done.rows ∷ c.in-Done.words ∷ c.in-Done.filled ∷ c.in-Done.pairs ∷ []
-
-  -- they fit words of 32 bits
-  fits : FitWords counts
-  fits =
-      let s = c.args in
-      let said = c.minimum_union.ensures.answers in
-      minimum_fits s.first.now s.second.now (length s.table.now) _ (sym said ∙ ap minimum_says c.in-Done.is)
 
 pub overflow_cast-rows : goal.overflow_cast-rows
-overflow_cast-rows c = let w = (fits c).0 in search rules
+overflow_cast-rows c = let w = (minimum_told _ _ _ _ c.minimum_union.ensures.answers c.in-Ok.is).0 in search rules
 
 pub overflow_cast-words : goal.overflow_cast-words
-overflow_cast-words c = let w = (fits c).1.0 in search rules
+overflow_cast-words c = let w = (minimum_told _ _ _ _ c.minimum_union.ensures.answers c.in-Ok.is).1.0 in search rules
 
 pub overflow_cast-filled : goal.overflow_cast-filled
-overflow_cast-filled c = let w = (fits c).1.1.0 in search rules
+overflow_cast-filled c = let w = (minimum_told _ _ _ _ c.minimum_union.ensures.answers c.in-Ok.is).1.1.0 in search rules
 
 pub overflow_cast-pairs : goal.overflow_cast-pairs
-overflow_cast-pairs c = let w = (fits c).1.1.1.0 in search rules
+overflow_cast-pairs c = let w = (minimum_told _ _ _ _ c.minimum_union.ensures.answers c.in-Ok.is).1.1.1.0 in search rules

@@ -1,13 +1,8 @@
 -- Whether every word passed may stand as one of the cells.
-use mathlib.Core.Path.{◌≡◌}
-use Prim.Native.Nat.{◌≤◌, ◌-◌}
-use lib.ListN.{length, take}
+use Rattle.std.proofs.Common.{◌≡◌, take}
 use Rattle.definitions.specs.Lists.{all}
 use Rattle.definitions.specs.Word.{is_cell}
 use Rattle.images.proofs.all_cells.Given as goal
 
-abbrev pub invariant-loop-i : goal.invariant-loop-i
-invariant-loop-i l = (l.i ≤ length l.w) × (l.fit ≡ all is_cell (take l.i l.w))
-
-abbrev pub decreases-loop-i : goal.decreases-loop-i
-decreases-loop-i l = length l.w - l.i
+abbrev pub invariant-loop-word : goal.invariant-loop-word
+invariant-loop-word l = l.fit ≡ all is_cell (take l.word-index l.w)

@@ -1,17 +1,14 @@
--- Whether every word passed may stand as one of the columns.
+-- `all` of the library asks each word in turn.
+use mathlib.Core.Path.{◌∙◌}
 use borrow.Author.Rules.{rules}
-use mathlib.Core.Path.{refl}
-use Rattle.definitions.specs.Lists.{all}
+use borrow.Author.Tests.{tests}
+use Rattle.std.proofs.lemmas.Iterator.{YieldsList-from_slice}
+use Rattle.std.proofs.lemmas.Iterator.Search.{all_from_yields_List}
 use Rattle.definitions.specs.Image.{is_column}
-use Rattle.lists.proofs.Walks.{all_turn}
+use Rattle.lists.proofs.Chains.{all_is}
 use Rattle.images.proofs.all_columns.Goals as goal
 
-pub loop-i-init : goal.loop-i-init
-unfolding all
-loop-i-init c = (search rules, refl)
-
-pub loop-i-preserved : goal.loop-i-preserved
-loop-i-preserved c =
-    let w = c.args.w.now in
-    let l = c.loop-i in
-    (search rules, all_turn is_column w l.i l.fit l.invariant.1 c.is_column-fit.result (search rules) c.is_column-fit.ensures)
+pub returns : goal.returns
+returns c =
+    all_from_yields_List is_column _ _ _ c.all.ensures.ran (YieldsList-from_slice c.args.w.now cc) (λ x b q k. search (rules, tests))
+    ∙ all_is is_column c.args.w.now

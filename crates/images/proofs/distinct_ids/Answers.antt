@@ -16,11 +16,11 @@ returns-then-has_id c =
     (map id_of (drop (c.loop-i.i + 1) c.args.w.now))
     ≡ c.has_id.result = let w = c.args.w.now in
     let i = c.loop-i.i in
-    let e : c.has_id.result ≡ any (eqb c.id-id.result) (map id_of (take (length w - (i + 1)) (drop (i + 1) w))) = c.has_id.ensures in
-    sym (rw (part_tail w (i + 1), c.id-id.ensures) at e) in
+    let e : c.has_id.result ≡ any (eqb c.id.result) (map id_of (take (length w - (i + 1)) (drop (i + 1) w))) = c.has_id.ensures in
+    sym (rw (part_tail w (i + 1), c.id.ensures) at e) in
     let l = c.loop-i in
     let a = c.args in
-    sym (distinct_stop eqb id_of a.w.now l.i l.invariant.1 (search rules) (tail_has ∙ c.if-has_id.true))
+    sym (distinct_stop eqb id_of a.w.now l.i l.invariant (search rules) (tail_has ∙ c.if-has_id.true))
 
 pub loop-i-preserved : goal.loop-i-preserved
 loop-i-preserved c =
@@ -28,11 +28,11 @@ loop-i-preserved c =
     (map id_of (drop (c.loop-i.i + 1) c.args.w.now))
     ≡ c.has_id.result = let w = c.args.w.now in
     let i = c.loop-i.i in
-    let e : c.has_id.result ≡ any (eqb c.id-id.result) (map id_of (take (length w - (i + 1)) (drop (i + 1) w))) = c.has_id.ensures in
-    sym (rw (part_tail w (i + 1), c.id-id.ensures) at e) in
+    let e : c.has_id.result ≡ any (eqb c.id.result) (map id_of (take (length w - (i + 1)) (drop (i + 1) w))) = c.has_id.ensures in
+    sym (rw (part_tail w (i + 1), c.id.ensures) at e) in
     let l = c.loop-i in
     let a = c.args in
-    (search rules, distinct_go eqb id_of a.w.now l.i l.invariant.1 (search rules) (tail_has ∙ c.if-has_id.false))
+    distinct_go eqb id_of a.w.now l.i l.invariant (search rules) (tail_has ∙ c.if-has_id.false)
 
 pub returns : goal.returns
-returns c = sym (distinct_end eqb id_of c.args.w.now c.loop-i.i c.loop-i.invariant.1 (search rules))
+returns c = sym (distinct_end eqb id_of c.args.w.now c.loop-i.i c.loop-i.invariant (search rules))

@@ -1,28 +1,16 @@
--- Whether the id is among those of the words passed.
+-- `any` of the library asks each word in turn.
+use mathlib.Core.Path.{◌∙◌}
 use borrow.Author.Rules.{rules}
-use mathlib.Core.Path.{refl, sym, ap, ◌∙◌}
-use mathlib.Core.List.{map}
-use Prim.Native.Nat.{◌<◌}
+use borrow.Author.Tests.{tests}
 use lib.Dec.{eqb}
-use native.Mathlib.Omega.{arith}
-use lib.ListN.{length, length-map}
-use Rattle.definitions.specs.Lists.{any}
+use Rattle.std.proofs.lemmas.Iterator.{YieldsList-from_slice}
+use Rattle.std.proofs.lemmas.Iterator.Search.{any_from_yields_List}
 use Rattle.definitions.specs.Word.{id_of}
-use Rattle.definitions.proofs.Lists.{map_at}
-use Rattle.lists.proofs.Walks.{any_turn}
+use Rattle.lists.proofs.Chains.{any_is, any_map}
 use Rattle.images.proofs.has_id.Goals as goal
 
-pub loop-i-init : goal.loop-i-init
-unfolding any
-loop-i-init c = (search rules, refl)
-
-pub loop-i-preserved : goal.loop-i-preserved
-loop-i-preserved c =
-    let a = c.args in
-    let l = c.loop-i in
-    let size = length-map a.w.now id_of in
-    let more : l.i < length a.w.now = search rules in (
-      search rules,
-      any_turn (eqb a.id) (map id_of a.w.now) l.i l.found l.invariant.1 _ (omega arith)
-          (ap (eqb a.id) (c.id.ensures ∙ sym (map_at id_of 0 0 a.w.now l.i more))),
-    )
+pub returns : goal.returns
+returns c =
+    let id = c.args.id in
+    any_from_yields_List (λ w. eqb id (id_of w)) _ _ _ c.any.ensures.ran (YieldsList-from_slice c.args.w.now cc) (λ x b q k. search (rules, tests))
+    ∙ any_is (λ w. eqb id (id_of w)) c.args.w.now ∙ any_map (eqb id) id_of c.args.w.now

@@ -1,12 +1,9 @@
--- `count_rows` meets its contract. The loop's invariant: the total and the filled cells from i on are the filled cells of all rows. Assumes nothing.
+-- `count_rows` meets its contract. The loop's invariant: the filled cells passed are counted. Assumes nothing.
 use mathlib.Core.Path.{◌≡◌}
-use Prim.Native.Nat.{◌+◌, ◌-◌, ◌≤◌}
-use lib.ListN.{take, drop}
-use Rattle.definitions.specs.MinimumUnion.{filled}
+use lib.ListN.{take}
+use Rattle.std.specs.List.{count_by}
+use Rattle.definitions.specs.Word.{is_filled}
 use Rattle.patterns.proofs.count_rows.Given as goal
 
-abbrev pub invariant-loop-i : goal.invariant-loop-i
-invariant-loop-i l = (l.i ≤ l.end) × (l.total ≤ l.i) × (l.total + filled (drop l.i (take l.end l.cells)) ≡ filled (take l.end l.cells))
-
-abbrev pub decreases-loop-i : goal.decreases-loop-i
-decreases-loop-i l = l.end - l.i
+abbrev pub invariant-loop-cell : goal.invariant-loop-cell
+invariant-loop-cell l = l.total ≡ count_by is_filled (take l.cell-index l.cell-items)

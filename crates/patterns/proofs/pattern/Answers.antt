@@ -2,6 +2,7 @@
 use mathlib.Core.Path.{◌≡◌, refl, sym, ◌∙◌, ap, subst}
 use Prim.Native.Nat.{ℕ, ◌<◌, ◌^◌}
 use lib.Seq.{take_all}
+use native.Mathlib.Omega.{arith}
 use borrow.Author.Rules.{rules}
 use Rattle.definitions.specs.SetList.{bits}
 use Rattle.definitions.specs.Limits.{max_columns}
@@ -11,17 +12,16 @@ use Rattle.patterns.proofs.pattern.Goals as goal
 
 pub loop-i-init : goal.loop-i-init
 unfolding pattern_of bits
-loop-i-init c = (search rules, refl)
+loop-i-init c = refl
 
 pub loop-i-preserved : goal.loop-i-preserved
 loop-i-preserved c =
     let l = c.loop-i in
-    let s = c.args in
-    (search rules, pattern_turn s.row.now l.i l.p c.bit.result (search rules) (search rules) l.invariant.1 c.bit.ensures)
+    pattern_turn c.args.row.now l.i l.p c.from.result c.requires c.loop-i-test.true l.invariant (search rules)
 
 pub returns : goal.returns
 returns c =
     let l = c.loop-i in
     let r = c.args.row.now in
-    let e : l.p ≡ pattern_of r = l.invariant.1 ∙ ap pattern_of (take_all l.i r (search rules)) in
-    (e, subst (λ (n : ℕ). n < 2 ^ max_columns) (sym e) (pattern_small r (search rules)))
+    let e : l.p ≡ pattern_of r = l.invariant ∙ ap pattern_of (take_all l.i r (omega arith)) in
+    (e, subst (λ (n : ℕ). n < 2 ^ max_columns) (sym e) (pattern_small r c.requires))

@@ -1,12 +1,8 @@
 -- `pattern` meets its contract. The loop's invariant: p is the pattern of the first i cells. Assumes nothing.
 use mathlib.Core.Path.{◌≡◌}
-use Prim.Native.Nat.{◌-◌, ◌≤◌}
-use lib.ListN.{length, take}
+use lib.ListN.{take}
 use Rattle.patterns.specs.Pattern.{pattern_of}
 use Rattle.patterns.proofs.pattern.Given as goal
 
 abbrev pub invariant-loop-i : goal.invariant-loop-i
-invariant-loop-i l = (l.i ≤ length l.row) × (l.p ≡ pattern_of (take l.i l.row))
-
-abbrev pub decreases-loop-i : goal.decreases-loop-i
-decreases-loop-i l = length l.row - l.i
+invariant-loop-i l = l.p ≡ pattern_of (take l.i l.row)

@@ -1,10 +1,8 @@
--- `decode` meets its contract: a turn puts the next word behind those so far, and fewer than four bytes are left at the end.
+-- The words of all chunks are those of the bytes.
 use Rattle.std.proofs.Common.{arith}
-use Rattle.fuse_body.proofs.Decoding.{decode_turn, decode_ends}
+use Rattle.fuse_body.proofs.Decoding.{decoded}
 use Rattle.fuse_body.proofs.file.decode.Goals as goal
 
-pub loop-i-preserved : goal.loop-i-preserved
-loop-i-preserved c = decode_turn _ _ _ _ (omega arith) (omega arith) c.word.ensures c.loop-i.invariant
-
 pub returns : goal.returns
-returns c = record { within = omega arith; holds = decode_ends _ _ c.loop-i.i (omega arith) c.loop-i.invariant }
+returns c =
+    decoded _ _ _ c.loop-i.i c.as_chunks.ensures.front (omega arith) (omega (arith, c.as_chunks.ensures.front_len)) c.loop-i.invariant

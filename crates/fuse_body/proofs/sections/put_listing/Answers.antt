@@ -1,37 +1,44 @@
--- `put_listing` meets its contract: the four sections, one after the other.
-use mathlib.Core.Path.{sym, ap}
-use native.Mathlib.Omega.{arith}
-use lib.ListN.{length}
-use Rattle.lists.proofs.Writing.{as_written, then_written}
-use Rattle.fuse_body.proofs.Parts.{listing_parts, listing-length}
+-- The four sections, one after the other.
+use Rattle.std.proofs.Common.{refl, sym, ◌++◌, arith}
+use Rattle.definitions.specs.Program.{sets_text, fused_text}
+use Rattle.text.proofs.Writing.{wrote_as, then_wrote, room_as, first_fits, behind_fits}
+use Rattle.fuse_body.proofs.Parts.{listing_parts}
 use Rattle.fuse_body.proofs.sections.put_listing.Goals as goal
 
-pub put_union-end-requires : goal.put_union-end-requires
-put_union-end-requires c =
-    let room = listing-length c.args.a.now c.args.b.now in
-    record { is_done = c.requires.fused_words.is_done; table_words = c.requires.table_len.0; fits = omega (arith, room, c.requires.table_len.1) }
+pub put_union-requires : goal.put_union-requires
+put_union-requires c =
+    record { is_done = c.requires.fused_words.is_done; table_words = omega arith; room = first_fits _ (listing_parts _ _) c.requires.room }
 
-pub put_minimum-end-requires : goal.put_minimum-end-requires
-put_minimum-end-requires c =
-    let room = listing-length c.args.a.now c.args.b.now in
-    record { is_done = c.requires.fused_words.is_done; table_words = omega arith; fits = omega (arith, room, c.requires.table_len.1) }
+pub put_minimum-requires : goal.put_minimum-requires
+put_minimum-requires c =
+    let rest = behind_fits (listing_parts _ _) c.requires.room c.put_union.ensures in
+    record {
+      is_done = c.requires.fused_words.is_done;
+      table_words = omega arith;
+      room = first_fits (sets_text c.args.a.now c.args.b.now ++ fused_text c.args.a.now c.args.b.now) refl rest;
+    }
 
-pub sets_lines-end-requires : goal.sets_lines-end-requires
-sets_lines-end-requires c =
+pub sets_lines-requires : goal.sets_lines-requires
+sets_lines-requires c =
     let words = c.requires.fused_words in
-    let room = listing-length c.args.a.now c.args.b.now in
-    record { set_width_in_bounds = words.list_within; fits = omega (arith, room, c.requires.table_len.1, ap length words.list_text) }
+    let rest = behind_fits refl (behind_fits (listing_parts _ _) c.requires.room c.put_union.ensures) c.put_minimum.ensures in
+    record {
+      set_width_in_bounds = words.list_within;
+      fits = room_as (sym words.list_text) (first_fits (fused_text c.args.a.now c.args.b.now) refl rest);
+    }
 
-pub fused_lines-requires : goal.fused_lines-requires
-fused_lines-requires c =
-    let room = listing-length c.args.a.now c.args.b.now in
+pub table_lines-requires : goal.table_lines-requires
+table_lines-requires c =
     let words = c.requires.fused_words in
-    record { has_rows = words.table_within; fits = omega (arith, room, c.requires.table_len.1, ap length words.list_text, ap length words.table_text) }
+    let rest = behind_fits refl (behind_fits (listing_parts _ _) c.requires.room c.put_union.ensures) c.put_minimum.ensures in
+    record {
+      has_rows = words.table_within;
+      fits = room_as (sym words.table_text) (behind_fits refl rest (wrote_as words.list_text c.sets_lines.ensures));
+    }
 
 pub returns : goal.returns
 returns c =
-    as_written (sym (listing_parts c.args.a.now c.args.b.now))
-    (then_written c.put_union-end.ensures
-    (then_written c.put_minimum-end.ensures
-    (then_written (as_written c.requires.fused_words.list_text c.sets_lines-end.ensures)
-    (as_written c.requires.fused_words.table_text c.fused_lines.ensures))))
+    let words = c.requires.fused_words in
+    wrote_as (sym (listing_parts _ _))
+    (then_wrote c.put_union.ensures (then_wrote c.put_minimum.ensures
+    (then_wrote (wrote_as words.list_text c.sets_lines.ensures) (wrote_as words.table_text c.table_lines.ensures))))

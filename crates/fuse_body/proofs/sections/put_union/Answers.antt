@@ -1,23 +1,17 @@
--- `put_union` meets its contract: the lines of the words that the call left are this section of the listing.
-use mathlib.Core.Path.{ap}
-use native.Mathlib.Omega.{arith}
-use lib.ListN.{length}
-use Rattle.lists.proofs.Writing.{as_written}
+-- The lines of the words that the call left are this section of the listing.
+use Rattle.std.proofs.Common.{sym}
+use Rattle.text.proofs.Writing.{wrote_as, room_as}
 use Rattle.fuse_body.proofs.Parts.{union_words, not_refused_outer}
 use Rattle.fuse_body.proofs.sections.put_union.Goals as goal
 
 pub union_lines-requires : goal.union_lines-requires
 union_lines-requires c =
-    let words = union_words c.args.a.now c.args.b.now _ _ c.outer_union-answer.ensures c.in-Done.is in
-    record { has_rows = words.within; fits = omega (arith, ap length words.text, c.requires.fits) }
+    let words = union_words c.args.a.now c.args.b.now _ _ c.outer_union.ensures c.in-Ok.is in
+    record { has_rows = words.within; fits = room_as (sym words.text) c.requires.room }
 
-pub returns-in-Refused : goal.returns-in-Refused
-returns-in-Refused c =
-    not_refused_outer c.args.a.now c.args.b.now c.requires.is_done _ c.requires.table_words
-    c.outer_union-answer.ensures c.in-Refused.is
+pub returns-in_default : goal.returns-in_default
+returns-in_default c =
+    not_refused_outer c.args.a.now c.args.b.now c.requires.is_done _ c.requires.table_words c.outer_union.ensures c.in_default.is
 
-pub returns-in-Done : goal.returns-in-Done
-returns-in-Done c =
-    let s = c.args in
-    as_written (union_words s.a.now s.b.now _ _ c.outer_union-answer.ensures c.in-Done.is).text
-    c.union_lines.ensures
+pub returns : goal.returns
+returns c = wrote_as (union_words c.args.a.now c.args.b.now _ _ c.outer_union.ensures c.in-Ok.is).text c.union_lines.ensures

@@ -5,11 +5,11 @@ use Rattle.fusing.proofs.fused.list_sets.Goals as goal
 
 pub find_sets-requires : goal.find_sets-requires
 find_sets-requires c =
-    let s = c.args in
-    (graph_for s.column_words.now (length s.column_words.now) s.n s.cells.now _ c.fill_neighbours.ensures, c.requires.0.few, c.requires.2)
+    let t = c.args.t.now in
+    (graph_for t.column_words.now (length t.column_words.now) t.len t.cells.now _ c.fill_neighbours.ensures, t.few, c.requires.1)
 
 pub returns : goal.returns
 returns c =
-    let s = c.args in
+    let t = c.args.t.now in
     let f = c.find_sets.ensures in
-    (f.0, sets_of s.column_words.now (length s.column_words.now) s.n _ s.cells.now _ _ c.fill_neighbours.ensures f.1)
+    (f.0, sets_of t.column_words.now (length t.column_words.now) t.len t.cells.now _ _ c.fill_neighbours.ensures _ f.1)

@@ -1,17 +1,23 @@
--- `any_marked` meets its contract. The loop's invariant: it is known whether one of the first c columns is marked.
+-- `any` of the library asks each column word in turn.
+use mathlib.Core.Path.{◌≡◌, refl, ◌∙◌, ap}
+use mathlib.Core.Bool.{Bool, ◌||◌}
+use mathlib.Core.List.{List, [], ◌∷◌}
+use Prim.Native.Nat.{ℕ}
 use borrow.Author.Rules.{rules}
-use mathlib.Core.Path.{refl}
+use borrow.Author.Tests.{tests}
+use Rattle.std.specs.List.{list_any}
+use Rattle.std.proofs.lemmas.Iterator.{YieldsList-from_slice}
+use Rattle.std.proofs.lemmas.Iterator.Search.{any_from_yields_List}
 use Rattle.definitions.specs.Lists.{any}
 use Rattle.definitions.specs.Word.{mark_of}
-use Rattle.lists.proofs.Walks.{any_turn}
 use Rattle.fusing.proofs.graph.any_marked.Goals as goal
 
-pub loop-c-init : goal.loop-c-init
+any_is : (p : ℕ → Bool) (l : List ℕ) → list_any p l ≡ any p l
 unfolding any
-loop-c-init c = (search rules, refl)
+any_is p [] = refl
+any_is p (x ∷ l) = ap (λ (b : Bool). p x || b) (any_is p l)
 
-pub loop-c-preserved : goal.loop-c-preserved
-loop-c-preserved c =
-    let words = c.args.column_words.now in
-    let l = c.loop-c in
-    (search rules, any_turn mark_of words l.c l.marked l.invariant.1 c.is_marked-marked.result (search rules) c.is_marked-marked.ensures)
+pub returns : goal.returns
+returns c =
+    any_from_yields_List mark_of _ _ _ c.any.ensures.ran (YieldsList-from_slice c.args.column_words.now cc) (λ x b q k. search (rules, tests))
+    ∙ any_is mark_of c.args.column_words.now

@@ -1,11 +1,7 @@
 -- `cross_rows` meets its contract. The loop's invariant: the words of the first j rows hold the rows that cross them.
-use Prim.Native.Nat.{◌-◌}
-use Rattle.fusing.proofs.Crossing.{CrossedRows}
+use Rattle.fusing.specs.UnionRows.{rows_of}
+use Rattle.fusing.proofs.Crossing.{CrossingTo}
 use Rattle.fusing.proofs.graph.cross_rows.Given as goal
 
 abbrev pub invariant-loop-j : goal.invariant-loop-j
-invariant-loop-j l =
-    CrossedRows l.column_words l.n l.cells l.initial.neighbours l.neighbours l.j l.at
-
-abbrev pub decreases-loop-j : goal.decreases-loop-j
-decreases-loop-j l = l.n - l.j
+invariant-loop-j l = CrossingTo l.t.column_words.now (rows_of l.t) l.neighbours l.j

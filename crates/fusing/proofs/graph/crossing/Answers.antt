@@ -1,4 +1,4 @@
--- `crossing` meets its contract. The loop's invariant: the words hold of each row what the first c columns say.
+-- `crossing` meets its contract: a turn adds what the next column says of each row.
 use borrow.Author.Rules.{rules}
 use mathlib.Core.Path.{refl}
 use Prim.Native.Nat.{◌-◌, ◌^◌}
@@ -12,12 +12,7 @@ use Rattle.fusing.proofs.graph.crossing.Goals as goal
 pub loop-c-init : goal.loop-c-init
 loop-c-init c =
     let a = c.args in
-    record {
-      in_row = search rules;
-      above_fits = search rules;
-      within_fits = search rules;
-      passed = passed_start a.row.now a.columns.now a.counted.now;
-    }
+    record { above_fits = search rules; within_fits = search rules; passed = passed_start a.row.now a.columns.now a.counted.now }
 
 pub loop-c-preserved : goal.loop-c-preserved
 loop-c-preserved c =
@@ -27,10 +22,9 @@ loop-c-preserved c =
     let n = get_or a.counted.now l.c 0 in
     let e = c.blank-empty.result in
     record {
-      in_row = search rules;
       above_fits = omega (arith, and_le_l l.above (bit_or f e), l.invariant.above_fits);
       within_fits = omega (arith, and_le_l l.within (2 ^ word_bits - 1 - bit_and f e), l.invariant.within_fits);
-      passed = passed_turn a.row.now a.columns.now a.counted.now l.c l.shared l.above l.within f n e (search rules)
+      passed = passed_turn a.row.now a.columns.now a.counted.now l.c l.shared l.above l.within f n e (omega arith)
           (omega (arith, c.type_inv.counted l.c)) refl refl c.blank-empty.ensures l.invariant.passed;
     }
 
@@ -38,5 +32,4 @@ pub returns : goal.returns
 returns c =
     let a = c.args in
     let l = c.loop-c in
-    passed_end a.row.now a.columns.now a.counted.now l.c l.shared l.above l.within (search rules)
-    l.invariant.above_fits l.invariant.within_fits l.invariant.passed
+    passed_end a.row.now a.columns.now a.counted.now l.c l.shared l.above l.within (omega arith) l.invariant.above_fits l.invariant.within_fits l.invariant.passed

@@ -1,73 +1,37 @@
--- `narrow_rows` meets its contract. The loop's invariant: the words of the rows that are not in the rest are narrowed.
+-- `narrow_rows` meets its contract: the next row is filled, and its word is narrowed.
 use borrow.Author.Rules.{rules}
-use mathlib.Core.Path.{◌≡◌}
-use mathlib.Core.Bool.{true}
-use Prim.Native.Nat.{ℕ, ◌-◌, ◌<◌}
 use native.Mathlib.Omega.{arith}
-use lib.Bits.{and_le_r}
-use lib.Count.{count_trailing_zeros}
-use lib.ListN.{length, get_or}
-use Rattle.bitsets.specs.Bits.{word_bits, has}
-use Rattle.bitsets.proofs.Bits.{Lowest, trailing_lowest}
-use Rattle.fusing.proofs.Narrowing.{narrow_turn, narrow_end}
+use Rattle.fusing.proofs.Narrowing.{narrow_next, narrow_turn, narrow_end}
 use Rattle.fusing.proofs.graph.narrow_rows.Goals as goal
 
-pub bounds-neighbours-j : goal.bounds-neighbours-j
-bounds-neighbours-j c =
-    let row : ℕ = count_trailing_zeros word_bits c.loop-rest.rest in
-    let lowest_of : Lowest c.loop-rest.rest row = trailing_lowest word_bits c.loop-rest.rest c.loop-rest-test.true c.loop-rest.invariant.0 in
-    let filled_row : has c.args.filled row ≡ true = c.loop-rest.invariant.1.among row lowest_of.there in
-    let found : row < length c.args.neighbours.now = c.requires.2 row filled_row in
-    let within : row < length c.loop-rest.neighbours = omega (arith, found, c.loop-rest.invariant.1.size) in
-    within
+pub offset_bounds-leaders-j : goal.offset_bounds-leaders-j
+offset_bounds-leaders-j c = omega (arith, c.requires.1 _ (narrow_next c.args.filled c.args.leaders.now c.args.equal.now c.args.neighbours.now c.in-Some.ensures.steps c.loop-j.invariant))
 
 pub bounds-leaders-j : goal.bounds-leaders-j
-bounds-leaders-j c =
-    let row : ℕ = count_trailing_zeros word_bits c.loop-rest.rest in
-    let lowest_of : Lowest c.loop-rest.rest row = trailing_lowest word_bits c.loop-rest.rest c.loop-rest-test.true c.loop-rest.invariant.0 in
-    let filled_row : has c.args.filled row ≡ true = c.loop-rest.invariant.1.among row lowest_of.there in
-    let led : row < length c.args.leaders.now = c.requires.1 row filled_row in
-    led
+bounds-leaders-j c = c.requires.1 _ (narrow_next c.args.filled c.args.leaders.now c.args.equal.now c.args.neighbours.now c.in-Some.ensures.steps c.loop-j.invariant)
 
 pub offset_bounds-equal-leaders : goal.offset_bounds-equal-leaders
-offset_bounds-equal-leaders c =
-    let row : ℕ = count_trailing_zeros word_bits c.loop-rest.rest in
-    let lowest_of : Lowest c.loop-rest.rest row = trailing_lowest word_bits c.loop-rest.rest c.loop-rest-test.true c.loop-rest.invariant.0 in
-    let filled_row : has c.args.filled row ≡ true = c.loop-rest.invariant.1.among row lowest_of.there in
-    let grouped : get_or c.args.leaders.now row 0 < length c.args.equal.now = c.requires.0 row filled_row in
-    omega (arith, grouped)
+offset_bounds-equal-leaders c = omega (arith, c.requires.0 _ (narrow_next c.args.filled c.args.leaders.now c.args.equal.now c.args.neighbours.now c.in-Some.ensures.steps c.loop-j.invariant))
 
 pub bounds-equal-leaders : goal.bounds-equal-leaders
-bounds-equal-leaders c =
-    let row : ℕ = count_trailing_zeros word_bits c.loop-rest.rest in
-    let lowest_of : Lowest c.loop-rest.rest row = trailing_lowest word_bits c.loop-rest.rest c.loop-rest-test.true c.loop-rest.invariant.0 in
-    let filled_row : has c.args.filled row ≡ true = c.loop-rest.invariant.1.among row lowest_of.there in
-    let grouped : get_or c.args.leaders.now row 0 < length c.args.equal.now = c.requires.0 row filled_row in
-    grouped
+bounds-equal-leaders c = c.requires.0 _ (narrow_next c.args.filled c.args.leaders.now c.args.equal.now c.args.neighbours.now c.in-Some.ensures.steps c.loop-j.invariant)
 
-pub bounds-neighbours-j-in-loop-rest : goal.bounds-neighbours-j-in-loop-rest
-bounds-neighbours-j-in-loop-rest c =
-    let row : ℕ = count_trailing_zeros word_bits c.loop-rest.rest in
-    let lowest_of : Lowest c.loop-rest.rest row = trailing_lowest word_bits c.loop-rest.rest c.loop-rest-test.true c.loop-rest.invariant.0 in
-    let filled_row : has c.args.filled row ≡ true = c.loop-rest.invariant.1.among row lowest_of.there in
-    let found : row < length c.args.neighbours.now = c.requires.2 row filled_row in
-    let within : row < length c.loop-rest.neighbours = omega (arith, found, c.loop-rest.invariant.1.size) in
-    within
+pub offset_bounds-neighbours-j : goal.offset_bounds-neighbours-j
+offset_bounds-neighbours-j c = omega (arith, c.requires.2 _ (narrow_next c.args.filled c.args.leaders.now c.args.equal.now c.args.neighbours.now c.in-Some.ensures.steps c.loop-j.invariant))
 
-pub loop-rest-preserved : goal.loop-rest-preserved
-loop-rest-preserved c =
-    let row : ℕ = count_trailing_zeros word_bits c.loop-rest.rest in
-    let lowest_of : Lowest c.loop-rest.rest row = trailing_lowest word_bits c.loop-rest.rest c.loop-rest-test.true c.loop-rest.invariant.0 in
-    let filled_row : has c.args.filled row ≡ true = c.loop-rest.invariant.1.among row lowest_of.there in
-    let found : row < length c.args.neighbours.now = c.requires.2 row filled_row in
-    let l = c.loop-rest in
-    let s = c.args in (
-      omega (arith, and_le_r l.rest (l.rest - 1), l.invariant.0),
-      narrow_turn s.filled s.leaders.now s.equal.now s.neighbours.now l.rest row l.neighbours lowest_of found l.invariant.1,
-    )
+pub bounds-neighbours-j : goal.bounds-neighbours-j
+bounds-neighbours-j c = omega (arith, c.loop-j.auto.neighbours, c.requires.2 _ (narrow_next c.args.filled c.args.leaders.now c.args.equal.now c.args.neighbours.now c.in-Some.ensures.steps c.loop-j.invariant))
+
+pub bounds-neighbours-j-in-loop-j : goal.bounds-neighbours-j-in-loop-j
+bounds-neighbours-j-in-loop-j c = omega (arith, c.loop-j.auto.neighbours, c.requires.2 _ (narrow_next c.args.filled c.args.leaders.now c.args.equal.now c.args.neighbours.now c.in-Some.ensures.steps c.loop-j.invariant))
+
+pub loop-j-preserved : goal.loop-j-preserved
+loop-j-preserved c =
+    let a = c.args in
+    let room = c.requires.2 _ (narrow_next c.args.filled c.args.leaders.now c.args.equal.now c.args.neighbours.now c.in-Some.ensures.steps c.loop-j.invariant) in
+    narrow_turn a.filled a.leaders.now a.equal.now a.neighbours.now c.in-Some.ensures.steps (omega (arith, c.loop-j.auto.neighbours, room)) c.loop-j.invariant
 
 pub returns : goal.returns
 returns c =
     let a = c.args in
-    let l = c.loop-rest in
-    narrow_end a.filled a.leaders.now a.equal.now a.neighbours.now l.rest l.neighbours c.loop-rest-test.false (search rules) l.invariant.1
+    narrow_end a.filled a.leaders.now a.equal.now a.neighbours.now _ c.loop-j.neighbours c.in-None.ensures.steps (search rules) c.loop-j.invariant

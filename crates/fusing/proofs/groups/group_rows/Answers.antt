@@ -1,123 +1,75 @@
--- `group_rows` meets its contract. The loop's invariant: the rows that are not in the rest are grouped.
-use borrow.Author.Rules.{rules}
-use mathlib.Core.Path.{refl, ◌∙◌}
-use Prim.Native.Nat.{ℕ, ◌-◌, ◌%◌, ◌<◌}
+-- `group_rows` meets its contract: the next row is a row of T, and so is each leader; it joins its leader's group, or leads a new one.
+use Prim.Native.Nat.{◌%◌}
 use native.Mathlib.Omega.{arith}
-use lib.Bits.{and_le_r}
-use lib.Count.{count_trailing_zeros}
-use lib.ListN.{length, length-set}
-use Rattle.bitsets.specs.Bits.{word_bits}
-use Rattle.bitsets.proofs.Bits.{trailing_lowest, digit_below}
-use Rattle.fusing.specs.Groups.{bucket_count, cell_at}
-use Rattle.fusing.proofs.Grouping.{group_start, digit_filled, next_filled, next_outside, group_new, group_more, group_end}
+use lib.ListN.{length, get_or}
+use Rattle.fusing.specs.Groups.{cell_at}
+use Rattle.fusing.proofs.HeldRows.{filled_inside}
+use Rattle.fusing.proofs.Grouping.{group_start, next_filled, bucket_filled, group_new, group_more, group_end}
 use Rattle.fusing.proofs.groups.group_rows.Goals as goal
 
-pub loop-rest-init : goal.loop-rest-init
-loop-rest-init c =
-    let a = c.args in
-    record {
-      fits = search rules;
-      leader_words = refl;
-      equal_words = refl;
-      bucket_words = search rules;
-      grouping = group_start (cell_at a.width a.cells.now a.c) a.filled a.leaders.now a.equal.now;
-    }
+pub loop-j-init : goal.loop-j-init
+loop-j-init c =
+    let t = c.args.t.now in
+    rw (c.into_iter-j-iterator.ensures.into_iter_gives, c.of-j-items.ensures) (group_start (cell_at (length t.column_words.now) t.cells.now c.args.c) (get_or t.columns.now c.args.c 0) c.args.leaders.now c.args.equal.now)
 
-pub overflow_mul-cell : goal.overflow_mul-cell
-overflow_mul-cell c =
-    let low = trailing_lowest word_bits c.loop-rest.rest c.loop-rest-test.true c.loop-rest.invariant.fits in
-    omega (arith, c.requires.0 _ (next_filled c.loop-rest.invariant.grouping low))
+pub cell-cell-requires : goal.cell-cell-requires
+cell-cell-requires c = (filled_inside c.args.t.now c.args.c c.requires.0 _ (next_filled c.loop-j.invariant c.in-Some.ensures.steps), c.requires.0)
 
-pub overflow_add-cell : goal.overflow_add-cell
-overflow_add-cell c =
-    let low = trailing_lowest word_bits c.loop-rest.rest c.loop-rest-test.true c.loop-rest.invariant.fits in
-    omega (arith, c.requires.0 _ (next_filled c.loop-rest.invariant.grouping low))
+pub leader-requires : goal.leader-requires
+leader-requires c =
+    (c.requires.0, λ k m. filled_inside c.args.t.now c.args.c c.requires.0 k (bucket_filled c.loop-j.invariant c.in-Some.ensures.steps (c.cell-cell.result % 16) k (omega arith) m))
 
-pub offset_bounds-cells-j : goal.offset_bounds-cells-j
-offset_bounds-cells-j c =
-    let low = trailing_lowest word_bits c.loop-rest.rest c.loop-rest-test.true c.loop-rest.invariant.fits in
-    omega (arith, c.requires.0 _ (next_filled c.loop-rest.invariant.grouping low))
-
-pub bounds-cells-j : goal.bounds-cells-j
-bounds-cells-j c =
-    let low = trailing_lowest word_bits c.loop-rest.rest c.loop-rest-test.true c.loop-rest.invariant.fits in
-    omega (arith, c.requires.0 _ (next_filled c.loop-rest.invariant.grouping low))
-
-pub leader-k-requires : goal.leader-k-requires
-leader-k-requires c =
-    let low = trailing_lowest word_bits c.loop-rest.rest c.loop-rest-test.true c.loop-rest.invariant.fits in
-    let d = cell_at c.args.width c.args.cells.now c.args.c (count_trailing_zeros word_bits c.loop-rest.rest) % bucket_count in (
-      λ k m. c.requires.0 k (digit_filled c.loop-rest.invariant.grouping low k m),
-      next_outside c.loop-rest.invariant.grouping low d (omega arith),
-    )
+pub offset_bounds-leaders-j : goal.offset_bounds-leaders-j
+offset_bounds-leaders-j c = omega (arith, filled_inside c.args.t.now c.args.c c.requires.0 _ (next_filled c.loop-j.invariant c.in-Some.ensures.steps))
 
 pub bounds-leaders-j : goal.bounds-leaders-j
-bounds-leaders-j c =
-    let low = trailing_lowest word_bits c.loop-rest.rest c.loop-rest-test.true c.loop-rest.invariant.fits in
-    omega (arith, c.requires.1 _ (next_filled c.loop-rest.invariant.grouping low), c.loop-rest.invariant.leader_words)
+bounds-leaders-j c = omega (arith, filled_inside c.args.t.now c.args.c c.requires.0 _ (next_filled c.loop-j.invariant c.in-Some.ensures.steps))
+
+pub offset_bounds-leaders-j-in-None-leader : goal.offset_bounds-leaders-j-in-None-leader
+offset_bounds-leaders-j-in-None-leader c = omega (arith, filled_inside c.args.t.now c.args.c c.requires.0 _ (next_filled c.loop-j.invariant c.in-Some.ensures.steps))
+
+pub bounds-leaders-j-in-None-leader : goal.bounds-leaders-j-in-None-leader
+bounds-leaders-j-in-None-leader c = omega (arith, filled_inside c.args.t.now c.args.c c.requires.0 _ (next_filled c.loop-j.invariant c.in-Some.ensures.steps))
+
+pub offset_bounds-equal-j : goal.offset_bounds-equal-j
+offset_bounds-equal-j c = omega (arith, filled_inside c.args.t.now c.args.c c.requires.0 _ (next_filled c.loop-j.invariant c.in-Some.ensures.steps))
 
 pub bounds-equal-j : goal.bounds-equal-j
-bounds-equal-j c =
-    let low = trailing_lowest word_bits c.loop-rest.rest c.loop-rest-test.true c.loop-rest.invariant.fits in
-    omega (arith, c.requires.2 _ (next_filled c.loop-rest.invariant.grouping low), c.loop-rest.invariant.equal_words)
+bounds-equal-j c = omega (arith, filled_inside c.args.t.now c.args.c c.requires.0 _ (next_filled c.loop-j.invariant c.in-Some.ensures.steps))
 
-pub loop-rest-preserved-then-k-j : goal.loop-rest-preserved-then-k-j
-loop-rest-preserved-then-k-j c =
-    let l = c.loop-rest in
-    let row : ℕ = count_trailing_zeros word_bits l.rest in
-    let low = trailing_lowest word_bits l.rest c.loop-rest-test.true l.invariant.fits in
-    let small = digit_below word_bits l.rest row l.invariant.fits low.there in
-    let space : row < length l.leaders = omega (arith, c.requires.1 row (next_filled l.invariant.grouping low), l.invariant.leader_words) in
-    let room : row < length l.equal = omega (arith, c.requires.2 row (next_filled l.invariant.grouping low), l.invariant.equal_words) in
-    record {
-      fits = omega (arith, and_le_r l.rest (l.rest - 1), l.invariant.fits);
-      leader_words = length-set l.leaders row _ ∙ l.invariant.leader_words;
-      equal_words = length-set l.equal row _ ∙ l.invariant.equal_words;
-      bucket_words = length-set l.buckets _ _ ∙ l.invariant.bucket_words;
-      grouping = group_new l.invariant.grouping low small space c.leader-k.result c.leader-k.ensures c.if-k-j.true room l.invariant.bucket_words;
-    }
+pub overflow_shl-equal : goal.overflow_shl-equal
+overflow_shl-equal c = omega (arith, c.args.t.now.few, filled_inside c.args.t.now c.args.c c.requires.0 _ (next_filled c.loop-j.invariant c.in-Some.ensures.steps))
+
+pub overflow_shl-equal-in-None-leader : goal.overflow_shl-equal-in-None-leader
+overflow_shl-equal-in-None-leader c = omega (arith, c.args.t.now.few, filled_inside c.args.t.now c.args.c c.requires.0 _ (next_filled c.loop-j.invariant c.in-Some.ensures.steps))
+
+pub overflow_shl-buckets : goal.overflow_shl-buckets
+overflow_shl-buckets c = omega (arith, c.args.t.now.few, filled_inside c.args.t.now c.args.c c.requires.0 _ (next_filled c.loop-j.invariant c.in-Some.ensures.steps))
 
 pub offset_bounds-equal-k : goal.offset_bounds-equal-k
-offset_bounds-equal-k c =
-    let low = trailing_lowest word_bits c.loop-rest.rest c.loop-rest-test.true c.loop-rest.invariant.fits in
-    omega (arith, c.requires.2 _ (digit_filled c.loop-rest.invariant.grouping low _ (c.leader-k.ensures.found c.if-k-j.false).0), c.loop-rest.invariant.equal_words)
+offset_bounds-equal-k c = omega (arith, filled_inside c.args.t.now c.args.c c.requires.0 _ (bucket_filled c.loop-j.invariant c.in-Some.ensures.steps (c.cell-cell.result % 16) _ (omega arith) c.in-Some-leader.ensures.0))
 
 pub bounds-equal-k : goal.bounds-equal-k
-bounds-equal-k c =
-    let low = trailing_lowest word_bits c.loop-rest.rest c.loop-rest-test.true c.loop-rest.invariant.fits in
-    omega (arith, c.requires.2 _ (digit_filled c.loop-rest.invariant.grouping low _ (c.leader-k.ensures.found c.if-k-j.false).0), c.loop-rest.invariant.equal_words)
+bounds-equal-k c = omega (arith, filled_inside c.args.t.now c.args.c c.requires.0 _ (bucket_filled c.loop-j.invariant c.in-Some.ensures.steps (c.cell-cell.result % 16) _ (omega arith) c.in-Some-leader.ensures.0))
 
-pub offset_bounds-equal-k-else-k-j : goal.offset_bounds-equal-k-else-k-j
-offset_bounds-equal-k-else-k-j c =
-    let low = trailing_lowest word_bits c.loop-rest.rest c.loop-rest-test.true c.loop-rest.invariant.fits in
-    omega (arith, c.requires.2 _ (digit_filled c.loop-rest.invariant.grouping low _ (c.leader-k.ensures.found c.if-k-j.false).0), c.loop-rest.invariant.equal_words)
+pub bounds-equal-k-in-Some-leader : goal.bounds-equal-k-in-Some-leader
+bounds-equal-k-in-Some-leader c = omega (arith, filled_inside c.args.t.now c.args.c c.requires.0 _ (bucket_filled c.loop-j.invariant c.in-Some.ensures.steps (c.cell-cell.result % 16) _ (omega arith) c.in-Some-leader.ensures.0))
 
-pub bounds-equal-k-else-k-j : goal.bounds-equal-k-else-k-j
-bounds-equal-k-else-k-j c =
-    let low = trailing_lowest word_bits c.loop-rest.rest c.loop-rest-test.true c.loop-rest.invariant.fits in
-    omega (arith, c.requires.2 _ (digit_filled c.loop-rest.invariant.grouping low _ (c.leader-k.ensures.found c.if-k-j.false).0), c.loop-rest.invariant.equal_words)
+pub loop-j-preserved-in-Some-leader : goal.loop-j-preserved-in-Some-leader
+loop-j-preserved-in-Some-leader c =
+    let row = filled_inside c.args.t.now c.args.c c.requires.0 _ (next_filled c.loop-j.invariant c.in-Some.ensures.steps) in
+    let leads = filled_inside c.args.t.now c.args.c c.requires.0 _ (bucket_filled c.loop-j.invariant c.in-Some.ensures.steps (c.cell-cell.result % 16) _ (omega arith) c.in-Some-leader.ensures.0) in
+    group_more c.loop-j.invariant c.in-Some.ensures.steps (omega (arith, c.args.t.now.few, row)) (omega (arith, row)) c.cell-cell.ensures c.in-Some-leader.k
+    c.in-Some-leader.ensures (omega (arith, leads))
 
-pub loop-rest-preserved : goal.loop-rest-preserved
-loop-rest-preserved c =
-    let l = c.loop-rest in
-    let row : ℕ = count_trailing_zeros word_bits l.rest in
-    let low = trailing_lowest word_bits l.rest c.loop-rest-test.true l.invariant.fits in
-    let small = digit_below word_bits l.rest row l.invariant.fits low.there in
-    let space : row < length l.leaders = omega (arith, c.requires.1 row (next_filled l.invariant.grouping low), l.invariant.leader_words) in
-    let led = digit_filled l.invariant.grouping low c.leader-k.result (c.leader-k.ensures.found c.if-k-j.false).0 in
-    record {
-      fits = omega (arith, and_le_r l.rest (l.rest - 1), l.invariant.fits);
-      leader_words = length-set l.leaders row _ ∙ l.invariant.leader_words;
-      equal_words = length-set l.equal _ _ ∙ l.invariant.equal_words;
-      bucket_words = l.invariant.bucket_words;
-      grouping =
-          group_more l.invariant.grouping low small space c.leader-k.result c.leader-k.ensures c.if-k-j.false
-          (omega (arith, c.requires.2 c.leader-k.result led, l.invariant.equal_words));
-    }
+pub loop-j-preserved : goal.loop-j-preserved
+loop-j-preserved c =
+    let row = filled_inside c.args.t.now c.args.c c.requires.0 _ (next_filled c.loop-j.invariant c.in-Some.ensures.steps) in
+    group_new c.loop-j.invariant c.in-Some.ensures.steps (omega (arith, c.args.t.now.few, row)) (omega (arith, row)) c.cell-cell.ensures c.in-None-leader.ensures
+    (omega (arith, row))
 
 pub returns : goal.returns
 returns c =
-    let l = c.loop-rest in
-    let s = c.args in
-    group_end (cell_at s.width s.cells.now s.c) s.filled l.rest l.buckets l.leaders l.equal c.loop-rest-test.false
-    (λ k h. omega (arith, c.requires.2 k h, l.invariant.equal_words)) l.invariant.grouping
+    let t = c.args.t.now in
+    group_end (cell_at (length t.column_words.now) t.cells.now c.args.c) (get_or t.columns.now c.args.c 0) _ c.loop-j.buckets c.loop-j.leaders c.loop-j.equal
+    c.in-None.ensures.steps (λ k h. omega (arith, filled_inside t c.args.c c.requires.0 k h)) c.loop-j.invariant

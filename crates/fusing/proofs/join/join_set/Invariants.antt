@@ -1,17 +1,11 @@
--- `join_set` meets its contract. The loop's invariant: the first i cells of the row stand in their positions.
-use mathlib.Core.List.{List}
-use Prim.Native.Nat.{ℕ, ◌-◌, ◌≤◌}
-use lib.ListN.{take}
-use Rattle.lists.proofs.Pastes.{Pasted}
+-- `join_set` meets its contract. The loop's invariant: the cells of the columns passed are written.
+use mathlib.Core.Path.{◌≡◌}
+use Prim.Native.Nat.{ℕ, ◌<◌}
+use lib.ListN.{length, get_or}
 use Rattle.fusing.specs.Join.{pick_from}
 use Rattle.fusing.proofs.join.join_set.Given as goal
 
--- the joined row, a cell for each column
-abbrev picked : ℕ → List ℕ → ℕ → List ℕ → List ℕ
-picked width cells set columns = pick_from width cells set 0 (take width columns)
-
-abbrev pub invariant-loop-i : goal.invariant-loop-i
-invariant-loop-i l = (l.i ≤ l.width) × Pasted l.initial.out l.at (picked l.width l.cells l.set l.columns) l.i l.out
-
-abbrev pub decreases-loop-i : goal.decreases-loop-i
-decreases-loop-i l = l.width - l.i
+abbrev pub invariant-loop-c : goal.invariant-loop-c
+invariant-loop-c l =
+    (k : ℕ) → k < l.c
+    → get_or l.out k 0 ≡ get_or (pick_from (length l.t.column_words.now) l.t.cells.now l.set 0 l.t.columns.now) k 0

@@ -1,48 +1,45 @@
--- `find_positions` meets its contract. The loop's invariant: the positions of the first k rows are written over those that the indices tell.
-use borrow.Author.Rules.{rules}
-use mathlib.Core.Path.{◌≡◌}
-use Prim.Native.Nat.{◌+◌, ◌*◌}
-use native.Mathlib.Nat.{add-mul, one-mul}
+-- `find_positions` meets its contract: a row that is named by another's index is sought, and the others have their positions.
+use mathlib.Core.Path.{sym, ◌∙◌, subst}
+use Prim.Native.Nat.{◌+◌}
 use native.Mathlib.Omega.{arith}
-use lib.ListN.{take}
-use Rattle.fusing.proofs.RowPositions.{position_listed, position_member, positions_turn, positions_stay, positions_end}
+use lib.ListN.{length}
+use Rattle.definitions.specs.Image.{rows_in}
+use Rattle.rows.specs.Indices.{rows_at}
+use Rattle.fusing.specs.Positions.{positions_in}
+use Rattle.fusing.proofs.RowPositions.{Placed, position_listed, position_member, placed_turn, placed_stay, placed_end}
 use Rattle.fusing.proofs.positions.find_positions.Goals as goal
+use Rattle.fusing.proofs.positions.find_positions.Goals.{then-positions-k, else-positions-k}
 
 pub position_of-requires : goal.position_of-requires
 position_of-requires c =
-    let l = c.loop-k in
-    let s = c.args in
-    let named = take s.m s.order.now in (
-      search rules,
-      position_listed s.width s.count s.cells.now named c.requires.0.fits c.requires.0.ordered l.k l.at (search rules) l.invariant.1,
-      position_member s.width s.count s.cells.now named c.requires.0.fits c.requires.0.ordered l.k l.at (search rules) l.invariant.1,
-    )
-
-pub loop-k-preserved-then-positions-k : goal.loop-k-preserved-then-positions-k
-loop-k-preserved-then-positions-k c =
-    let next_at : c.loop-k.at + c.args.width ≡ (c.loop-k.k + 1) * c.args.width = omega (arith, c.loop-k.invariant.1, add-mul c.loop-k.k 1 c.args.width, one-mul c.args.width) in
-    let l = c.loop-k in
-    let s = c.args in (
-      search rules,
-      next_at,
-      positions_turn s.width s.count s.cells.now (take s.m s.order.now) c.requires.0.fits c.requires.0.ordered l.k l.at (search rules) l.invariant.1
-          _ l.positions c.position_of.result (omega (arith, c.fill_own.ensures.size, c.requires.1)) c.position_of.ensures.0 l.invariant.2,
+    let a = c.args in
+    let n = length a.positions.now in
+    let k = c.loop-k.k in (
+      (omega arith),
+      position_listed a.width n a.cells.now a.order.now c.requires.fits c.requires.ordered k (omega (arith, c.fill_own.auto.positions)),
+      position_member a.width n a.cells.now a.order.now c.requires.fits c.requires.ordered k (omega (arith, c.fill_own.auto.positions)),
     )
 
 pub loop-k-preserved : goal.loop-k-preserved
 loop-k-preserved c =
-    let next_at : c.loop-k.at + c.args.width ≡ (c.loop-k.k + 1) * c.args.width = omega (arith, c.loop-k.invariant.1, add-mul c.loop-k.k 1 c.args.width, one-mul c.args.width) in
+    let a = c.args in
     let l = c.loop-k in
-    let s = c.args in (
-      search rules,
-      next_at,
-      positions_stay s.width s.count s.cells.now s.order.now s.m c.requires.0.fits c.requires.0.ordered c.requires.0.within l.k (search rules)
-          _ _ l.positions c.requires.1 c.fill_own.ensures c.if-positions-k.false l.invariant.2,
-    )
+    let n = length a.positions.now in
+    let all = positions_in (rows_at a.width a.cells.now a.order.now) (rows_in a.width n a.cells.now) in
+    elim c.if-positions-k.branch [
+      | then-positions-k w ↦
+          subst (Placed a.order.now all (l.k + 1)) (sym w.positions-is)
+          (placed_turn a.width n a.cells.now a.order.now c.requires.fits c.requires.ordered l.k (omega (arith, c.fill_own.auto.positions)) l.positions
+          w.position_of.result (omega (arith, l.auto.positions)) w.position_of.ensures.0 l.invariant)
+      | else-positions-k w ↦
+          subst (Placed a.order.now all (l.k + 1)) (sym w.positions-is)
+          (placed_stay a.width n a.cells.now a.order.now c.requires.fits c.requires.ordered l.positions l.k (omega (arith, c.fill_own.auto.positions))
+          (omega (arith, l.auto.positions)) w.if-positions-k.false l.invariant)
+    ]
 
 pub returns : goal.returns
 returns c =
+    let a = c.args in
     let l = c.loop-k in
-    let s = c.args in
-    positions_end s.width s.count s.cells.now (take s.m s.order.now) c.requires.0.fits c.requires.0.ordered s.positions.now _ l.positions l.k (omega arith)
-    c.fill_own.ensures.rest l.invariant.2
+    placed_end a.width (length a.positions.now) a.cells.now a.order.now c.requires.fits c.requires.ordered l.positions l.k
+    (l.auto.positions ∙ c.fill_own.auto.positions) (omega (arith, c.fill_own.auto.positions)) l.invariant

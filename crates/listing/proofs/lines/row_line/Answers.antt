@@ -1,37 +1,28 @@
--- `row_line` meets its contract: what is written so far and the cells that are left are the line.
-use mathlib.Core.Path.{sym, ap}
-use native.Mathlib.Omega.{arith}
-use lib.ListN.{length, length-append}
-use Rattle.definitions.specs.Text.{cell_text}
-use Rattle.lists.proofs.Writing.{as_written, then_written, behind_fits}
-use Rattle.listing.proofs.Fields.{no_fields, some_fields, fields_start, field_turn, line_ends}
+-- A row without cells, or the first cell, the others, and the end of the line.
+use Rattle.std.proofs.Common.{sym, refl, [], ◌∷◌}
+use Rattle.text.specs.Bytes.{newline}
+use Rattle.text.proofs.Writing.{wrote_as, then_wrote, room_as, first_fits, behind_fits}
+use Rattle.listing.proofs.Fields.{no_cells, some_cells}
 use Rattle.listing.proofs.lines.row_line.Goals as goal
 
-pub put_byte-requires : goal.put_byte-requires
-put_byte-requires c = omega (arith, ap length (no_fields cell_text c.args.cells.now c.if-cells-eq0.true))
+pub newline-requires : goal.newline-requires
+newline-requires c = room_as (no_cells _ c.in_default.len_below) c.requires
 
-pub returns-then-cells-eq0 : goal.returns-then-cells-eq0
-returns-then-cells-eq0 c =
-    let text = no_fields cell_text c.args.cells.now c.if-cells-eq0.true in
-    as_written (sym text) c.put_byte.ensures
+pub returns-in_default : goal.returns-in_default
+returns-in_default c = wrote_as (sym (no_cells _ c.in_default.len_below)) c.newline.ensures
 
-pub put_cell-end-requires : goal.put_cell-end-requires
-put_cell-end-requires c =
-    let some = some_fields cell_text c.args.cells.now (omega (arith, c.if-cells-eq0.false)) in
-    omega (arith, simp length-append at (ap length some))
+pub put-requires : goal.put-requires
+put-requires c = first_fits _ (some_cells _ c.in-len1-up.len_at_least) c.requires
 
-pub loop-i-init : goal.loop-i-init
-loop-i-init c =
-    let some = some_fields cell_text c.args.cells.now (omega (arith, c.if-cells-eq0.false)) in
-    let room = behind_fits _ some c.requires c.put_cell-end.ensures in
-    fields_start cell_text _ 1 (omega (arith, c.if-cells-eq0.false)) room
+pub fields-requires : goal.fields-requires
+fields-requires c =
+    first_fits (newline ∷ []) refl (behind_fits (some_cells _ c.in-len1-up.len_at_least) c.requires c.put.ensures)
 
-pub loop-i-preserved : goal.loop-i-preserved
-loop-i-preserved c = field_turn c.loop-i.invariant (omega arith) c.next_cell-end.ensures
+pub newline-requires-2 : goal.newline-requires-2
+newline-requires-2 c =
+    behind_fits refl (behind_fits (some_cells _ c.in-len1-up.len_at_least) c.requires c.put.ensures) c.fields.ensures
 
 pub returns : goal.returns
 returns c =
-    let s = c.args in
-    let some = some_fields cell_text s.cells.now (omega (arith, c.if-cells-eq0.false)) in
-    let rest = line_ends c.loop-i.invariant (omega arith) c.put_byte-2.ensures in
-    as_written (sym some) (then_written c.put_cell-end.ensures rest)
+    wrote_as (sym (some_cells _ c.in-len1-up.len_at_least))
+    (then_wrote c.put.ensures (then_wrote c.fields.ensures c.newline-2.ensures))

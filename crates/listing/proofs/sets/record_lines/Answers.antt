@@ -1,15 +1,13 @@
--- `record_lines` meets its contract: the lines of the records so far, and the records that are left.
-use native.Mathlib.Omega.{arith}
-use Rattle.lists.proofs.RowWriting.{row_length, row_text_fits, row_turn, rows_end}
+-- The lines of the records so far are written.
+use Rattle.std.proofs.Common.{sym, refl, arith, [], append-nil}
+use Rattle.text.proofs.Writing.{each_start, each_turn, each_fits}
 use Rattle.listing.proofs.sets.record_lines.Goals as goal
 
-pub set_line-end-requires : goal.set_line-end-requires
-set_line-end-requires c =
-    let written = c.loop-i.invariant in
-    record { set_len = row_length written (omega arith); fits = row_text_fits written (omega arith) }
+pub loop-set-init : goal.loop-set-init
+loop-set-init c = each_start _ _ _ _ c.requires
 
-pub loop-i-preserved : goal.loop-i-preserved
-loop-i-preserved c = row_turn c.loop-i.invariant (omega arith) c.set_line-end.ensures
+pub set_line-requires : goal.set_line-requires
+set_line-requires c = each_fits c.loop-set.invariant _ [] (omega arith) refl [] (sym (append-nil _)) c.requires
 
-pub returns : goal.returns
-returns c = rows_end c.loop-i.invariant (omega arith)
+pub loop-set-preserved : goal.loop-set-preserved
+loop-set-preserved c = each_turn c.loop-set.invariant _ [] (omega arith) refl c.set_line.ensures

@@ -1,21 +1,14 @@
--- `set_line` meets its contract: the positions, and then a title line.
-use mathlib.Core.Path.{refl, sym, ap}
-use native.Mathlib.Omega.{arith}
-use lib.ListN.{length, length-append}
-use Rattle.lists.proofs.Writing.{as_written, then_written, behind_fits}
+-- The positions, and then a line.
+use Rattle.std.proofs.Common.{sym, refl}
+use Rattle.text.proofs.Writing.{wrote_as, then_wrote, first_fits, behind_fits}
 use Rattle.listing.proofs.SetLines.{record_text}
 use Rattle.listing.proofs.sets.set_line.Goals as goal
 
-pub put_positions-end-requires : goal.put_positions-end-requires
-put_positions-end-requires c =
-    record { set_len = c.requires.set_len; fits = omega (arith, simp length-append at (ap length (record_text c.args.set.now _ refl))) }
+pub put_positions-requires : goal.put_positions-requires
+put_positions-requires c = first_fits _ (record_text c.args.set.now _ refl) c.requires
 
-pub title_line-requires : goal.title_line-requires
-title_line-requires c =
-    let text = record_text c.args.set.now _ c.low_bits-position.ensures in
-    behind_fits _ text c.requires.fits c.put_positions-end.ensures
+pub line-requires : goal.line-requires
+line-requires c = behind_fits (record_text c.args.set.now _ c.low_bits.ensures) c.requires c.put_positions.ensures
 
 pub returns : goal.returns
-returns c =
-    let text = record_text c.args.set.now _ c.low_bits-position.ensures in
-    as_written (sym text) (then_written c.put_positions-end.ensures c.title_line.ensures)
+returns c = wrote_as (sym (record_text c.args.set.now _ c.low_bits.ensures)) (then_wrote c.put_positions.ensures c.line.ensures)

@@ -1,13 +1,20 @@
--- `row_lines` meets its contract: the lines of the rows so far, and the rows that are left.
-use native.Mathlib.Omega.{arith}
-use Rattle.lists.proofs.RowWriting.{row_text_fits, row_turn, rows_end}
+-- The lines of the rows so far are written.
+use Rattle.std.proofs.Common.{sym, arith, [], append-nil}
+use Rattle.definitions.proofs.Images.{rows_length}
+use Rattle.text.proofs.Writing.{each_start, each_turn, each_fits, each_end}
+use Rattle.listing.proofs.Rows.{row_is}
 use Rattle.listing.proofs.tables.row_lines.Goals as goal
 
-pub row_line-end-requires : goal.row_line-end-requires
-row_line-end-requires c = row_text_fits c.loop-i.invariant (omega arith)
+pub loop-row-init : goal.loop-row-init
+loop-row-init c = each_start _ _ _ _ c.requires.fits
 
-pub loop-i-preserved : goal.loop-i-preserved
-loop-i-preserved c = row_turn c.loop-i.invariant (omega arith) c.row_line-end.ensures
+pub row_line-requires : goal.row_line-requires
+row_line-requires c =
+    each_fits c.loop-row.invariant _ [] (omega (arith, rows_length c.args.columns c.args.rows c.args.cells.now)) (row_is _ _ _ _ c.loop-row-test.true) [] (sym (append-nil _)) c.requires.fits
+
+pub loop-row-preserved : goal.loop-row-preserved
+loop-row-preserved c =
+    each_turn c.loop-row.invariant _ [] (omega (arith, rows_length c.args.columns c.args.rows c.args.cells.now)) (row_is _ _ _ _ c.loop-row-test.true) c.row_line.ensures
 
 pub returns : goal.returns
-returns c = rows_end c.loop-i.invariant (omega arith)
+returns c = each_end c.loop-row.invariant (omega (arith, rows_length c.args.columns c.args.rows c.args.cells.now))

@@ -1,11 +1,15 @@
--- `for_row` meets its contract. The loop's invariant: the set holds the fuller rows that are filled where the row is, of the columns passed.
--- Assumes nothing.
-use borrow.Author.Rules.{rules}
-use Rattle.minimum.proofs.Passing.{held_turn}
+-- `for_row` meets its contract: a turn passes one column more. Assumes nothing.
+use lib.ListN.{length}
+use Rattle.std.proofs.lemmas.List.{length_push}
+use Rattle.std.proofs.lemmas.Slice.Zip.{zip_turn}
+use Rattle.minimum.proofs.Passing.{held_next}
 use Rattle.minimum.proofs.candidates.for_row.Goals as goal
 
-pub loop-c-preserved : goal.loop-c-preserved
-loop-c-preserved c =
-    let l = c.loop-c in
+pub loop-cell-preserved : goal.loop-cell-preserved
+loop-cell-preserved c =
     let a = c.args in
-    (search rules, held_turn a.row.now a.fuller a.columns.now l.c l.set c.blank.result l.invariant.1 c.blank.ensures)
+    let l = c.loop-cell in
+    let i = c.in-Some in
+    let turn = zip_turn a.row.now a.columns.now l.yielded c.into_iter-cell-iterator.result l.cell-iterator c.next.new.self c.next.result (cc) (cc) l.yielded_by (i.cell, i.filled) i.is c.next.ensures.steps in
+    held_next a.row.now a.fuller a.columns.now (length l.yielded) _ l.set i.cell.now i.filled.now c.blank.result
+    (length_push l.yielded (i.cell, i.filled)) (turn.2 0) (turn.3 0) l.invariant c.blank.ensures

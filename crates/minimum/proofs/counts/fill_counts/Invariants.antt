@@ -1,11 +1,10 @@
--- `fill_counts` meets its contract. The loop's invariant: the counts of the first i rows stand over the words found. Assumes nothing.
-use Prim.Native.Nat.{◌-◌, ◌*◌, ◌≤◌}
+-- `fill_counts` meets its contract. The loop's invariant: the first i counts are those of the first i rows. Assumes nothing.
 use mathlib.Core.Path.{◌≡◌}
-use Rattle.minimum.proofs.Counting.{CountsTo}
+use mathlib.Core.List.{map}
+use lib.ListN.{take}
+use Rattle.definitions.specs.Image.{rows_in}
+use Rattle.definitions.specs.MinimumUnion.{filled}
 use Rattle.minimum.proofs.counts.fill_counts.Given as goal
 
 abbrev pub invariant-loop-i : goal.invariant-loop-i
-invariant-loop-i l = (l.i ≤ l.n) × (l.at ≡ l.i * l.width) × CountsTo l.width l.n l.cells l.initial.counts l.i l.counts
-
-abbrev pub decreases-loop-i : goal.decreases-loop-i
-decreases-loop-i l = l.n - l.i
+invariant-loop-i l = take l.i l.counts ≡ map filled (rows_in l.width l.i l.cells)

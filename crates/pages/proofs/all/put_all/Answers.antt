@@ -1,27 +1,32 @@
--- `put_all` meets its contract: page after page.
-use Prim.Native.Nat.{◌<◌}
-use native.Mathlib.Omega.{arith}
-use Rattle.definitions.specs.Page.{page, page_count, all_pages}
-use Rattle.definitions.proofs.Pages.{page-length}
-use Rattle.pages.proofs.PageWriting.{texts_start, text_room, text_turn, texts_end}
+-- The pages so far are written.
+use Rattle.std.proofs.Common.{rules, sym, [], append-nil, ◌<◌, arith}
+use Rattle.definitions.specs.Page.{page_count, all_pages}
+use Rattle.text.proofs.Writing.{wrote_as, room_as, counted_start, counted_turn, counted_fits, counted_end, lent_written, lent_room}
+use Rattle.pages.proofs.Pages.{has_band, small_part, page_is}
 use Rattle.pages.proofs.all.put_all.Goals as goal
 
 pub loop-n-init : goal.loop-n-init
-unfolding all_pages
-loop-n-init c =
-    texts_start (page c.args.image.now) (page_count c.args.image.now) c.args.out.now 0 c.requires.1
+loop-n-init c = counted_start _ _ _ _ (lent_room c.new-pages.ensures.found c.new-pages.ensures.nothing c.requires.1)
 
-pub put_next-end-requires : goal.put_next-end-requires
-put_next-end-requires c =
+pub put_page-requires : goal.put_page-requires
+unfolding all_pages
+put_page-requires c =
     let image = c.args.image.now in
-    let w = c.loop-n.invariant in
-    let more : c.loop-n.n < page_count image = omega (arith, c.count_pages-count.ensures) in
-    (c.requires.0, more, omega (arith, text_room w more, page-length image c.loop-n.n))
+    let more : c.loop-n.n < page_count image = omega (arith, c.count_pages-n-end.ensures) in
+    let room = lent_room c.new-pages.ensures.found c.new-pages.ensures.nothing c.requires.1 in
+    record {
+      has_band = rw c.band_pages-parts.ensures (has_band image c.loop-n.n c.requires.0 more, small_part image c.loop-n.n c.requires.0 more);
+      room = room_as (page_is image c.loop-n.n _ c.band_pages-parts.ensures) (counted_fits c.loop-n.invariant more [] (sym (append-nil _)) room);
+    }
 
 pub loop-n-preserved : goal.loop-n-preserved
 loop-n-preserved c =
-    text_turn c.loop-n.invariant (omega (arith, c.count_pages-count.ensures)) c.put_next-end.ensures
+    counted_turn c.loop-n.invariant (omega (arith, c.count_pages-n-end.ensures))
+    (wrote_as (sym (page_is c.args.image.now c.loop-n.n _ c.band_pages-parts.ensures)) c.put_page.ensures)
 
 pub returns : goal.returns
 unfolding all_pages
-returns c = texts_end c.loop-n.invariant (omega (arith, c.count_pages-count.ensures))
+returns c =
+    let pages = counted_end c.loop-n.invariant (omega (arith, c.count_pages-n-end.ensures)) in
+    let same = pages.same in
+    lent_written c.new-pages.ensures.found c.new-pages.ensures.nothing pages (search rules) c.length.ensures

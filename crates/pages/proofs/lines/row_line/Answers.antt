@@ -1,35 +1,21 @@
--- `row_line` meets its contract: the position, cell after cell, and the end of the line.
-use native.Mathlib.Omega.{arith}
-use Rattle.definitions.specs.Text.{decimal, cell_text}
-use Rattle.definitions.proofs.PageLines.{line_fits, decimal_characters, cell_characters}
+-- The position, and then the cells.
+use Rattle.std.proofs.Common.{sym, arith}
 use Rattle.definitions.proofs.Pages.{position_fits, cell_fits}
-use Rattle.pages.proofs.LineWriting.{cells_start, cell_room, cell_turn, used_few, end_room, cells_end, line_written}
+use Rattle.text.proofs.Writing.{wrote_as, then_wrote, first_fits, behind_fits}
+use Rattle.pages.proofs.LineParts.{row_parts}
 use Rattle.pages.proofs.lines.row_line.Goals as goal
 
-pub number_right-end-requires : goal.number_right-end-requires
-number_right-end-requires c =
-    (position_fits c.args.position c.requires.0, omega arith, omega arith)
+pub right-requires-clause-narrow : goal.right-requires-clause-narrow
+right-requires-clause-narrow c = (position_fits c.args.position c.requires.few.0, omega arith)
 
-pub loop-i-init : goal.loop-i-init
-loop-i-init c =
-    let position = c.args.position in
-    let fits = line_fits cell_text (decimal position) c.args.cells.now (position_fits position c.requires.0) (decimal_characters position) c.requires.1
-    (λ w m. (cell_fits w, cell_characters w)) in
-    cells_start cell_text (decimal position) c.args.cells.now fits c.requires.2 c.number_right-end.ensures
+pub right-requires-clause-room : goal.right-requires-clause-room
+right-requires-clause-room c = first_fits _ (row_parts _ _ c.requires.few.0 c.requires.few.1) c.requires.room
 
-pub cell_right-end-requires : goal.cell_right-end-requires
-cell_right-end-requires c = cell_room c.loop-i.invariant (omega arith) (cell_fits _)
+pub put_cells-requires-clause-narrow : goal.put_cells-requires-clause-narrow
+put_cells-requires-clause-narrow c = cell_fits
 
-pub loop-i-preserved : goal.loop-i-preserved
-loop-i-preserved c = cell_turn c.loop-i.invariant (omega arith) c.cell_right-end.ensures
-
-pub end_line-requires : goal.end_line-requires
-end_line-requires c =
-    let w = c.loop-i.invariant in
-    (used_few w (omega arith), end_room w (omega arith))
+pub put_cells-requires-clause-room : goal.put_cells-requires-clause-room
+put_cells-requires-clause-room c = behind_fits (row_parts _ _ c.requires.few.0 c.requires.few.1) c.requires.room c.right.ensures
 
 pub returns : goal.returns
-returns c =
-    let w = c.loop-i.invariant in
-    let s = c.args in
-    line_written cell_text (decimal s.position) s.cells.now c.number_right-end.ensures (cells_end w (omega arith) c.end_line.ensures)
+returns c = wrote_as (sym (row_parts _ _ c.requires.few.0 c.requires.few.1)) (then_wrote c.right.ensures c.put_cells.ensures)

@@ -1,5 +1,5 @@
--- `add_row` meets its contract. The loop's invariant: the first c columns hold row j. Assumes nothing.
-use borrow.Author.Rules.{rules}
+-- `add_row` meets its contract: at the last column the words hold row j. Assumes nothing.
+use native.Mathlib.Omega.{arith}
 use Rattle.patterns.proofs.FilledRows.{filled_to_end}
 use Rattle.patterns.proofs.columns.add_row.Goals as goal
 
@@ -7,4 +7,4 @@ pub returns : goal.returns
 returns c =
     let a = c.args in
     let l = c.loop-c in
-    filled_to_end a.row.now a.j a.columns.now l.c l.columns (search rules) c.requires.1 l.invariant.1
+    filled_to_end a.row.now a.j a.columns.now l.c l.columns (omega arith) c.requires.1 l.invariant

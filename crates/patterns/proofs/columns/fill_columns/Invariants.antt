@@ -1,10 +1,7 @@
--- `fill_columns` meets its contract. The loop's invariant: the words hold the first j rows.
-use Prim.Native.Nat.{◌-◌}
-use Rattle.patterns.proofs.FilledRows.{FilledRows}
+-- `fill_columns` meets its contract. The loop's invariant: the words hold the first j rows. Assumes nothing.
+use Rattle.definitions.specs.Image.{rows_in}
+use Rattle.patterns.specs.Columns.{ColumnsOf}
 use Rattle.patterns.proofs.columns.fill_columns.Given as goal
 
 abbrev pub invariant-loop-j : goal.invariant-loop-j
-invariant-loop-j l = FilledRows l.width l.n l.cells l.initial.columns l.columns l.j l.at
-
-abbrev pub decreases-loop-j : goal.decreases-loop-j
-decreases-loop-j l = l.n - l.j
+invariant-loop-j l = ColumnsOf (rows_in l.width l.j l.cells) l.width l.columns

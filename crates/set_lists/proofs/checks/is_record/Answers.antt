@@ -1,28 +1,28 @@
 -- `is_record` meets its contract: each test is a part of check 13.
-use mathlib.Core.Path.{refl, ◌∙◌}
-use native.Mathlib.Omega.{arith}
-use lib.ListN.{take}
+use Rattle.std.proofs.Common.{◌∙◌, sym, refl, arith, take}
 use Rattle.definitions.specs.Limits.{mark_words}
-use Rattle.set_lists.proofs.RecordTests.{row_fails, some_fails, marks_tell}
+use Rattle.definitions.proofs.Bools.{clash}
+use Rattle.set_lists.proofs.Tests.{row_fails, some_fails, marks_tell}
 use Rattle.set_lists.proofs.checks.is_record.Goals as goal
+use Rattle.set_lists.proofs.checks.is_record.Goals.{then-is_row_word, else-is_row_word}
 
-pub returns-then-not-is_row_word : goal.returns-then-not-is_row_word
-returns-then-not-is_row_word c =
+pub returns-then-has_mark : goal.returns-then-has_mark
+returns-then-has_mark c =
     let s = c.args in
-    row_fails mark_words s.rows s.set.now (take mark_words s.set.now) refl (omega arith)
-    c.is_row_word.result c.is_row_word.ensures (c.if-not-is_row_word.true)
+    elim c.if-is_row_word.branch [
+      | then-is_row_word w ↦ c.marks_fit.ensures
+          ∙ marks_tell mark_words s.rows s.set.now (take mark_words s.set.now) refl (omega arith)
+          c.is_row_word.ensures w.if-is_row_word.true w.has_mark.ensures (sym w.value-is ∙ c.if-has_mark.true)
+      | else-is_row_word w ↦ absurd (clash c.if-has_mark.true (w.value-is ∙ w.if-is_row_word.false))
+    ]
 
-pub returns-then-not-has_mark : goal.returns-then-not-has_mark
-returns-then-not-has_mark c =
+pub returns-else-has_mark : goal.returns-else-has_mark
+returns-else-has_mark c =
     let s = c.args in
-    some_fails mark_words s.rows s.set.now (take mark_words s.set.now) refl (omega arith)
-    c.is_row_word.result c.is_row_word.ensures (c.if-not-is_row_word.false)
-    c.has_mark.result c.has_mark.ensures (c.if-not-has_mark.true)
-
-pub returns : goal.returns
-returns c =
-    let s = c.args in
-    c.marks_fit.ensures
-    ∙ marks_tell mark_words s.rows s.set.now (take mark_words s.set.now) refl (omega arith)
-    c.is_row_word.result c.is_row_word.ensures (c.if-not-is_row_word.false)
-    c.has_mark.result c.has_mark.ensures (c.if-not-has_mark.false)
+    elim c.if-is_row_word.branch [
+      | then-is_row_word w ↦ c.if-has_mark.false
+          ∙ some_fails mark_words s.rows s.set.now (take mark_words s.set.now) refl (omega arith)
+          c.is_row_word.ensures w.if-is_row_word.true w.has_mark.ensures (sym w.value-is ∙ c.if-has_mark.false)
+      | else-is_row_word w ↦ c.if-has_mark.false
+          ∙ row_fails mark_words s.rows s.set.now (take mark_words s.set.now) refl (omega arith) c.is_row_word.ensures w.if-is_row_word.false
+    ]

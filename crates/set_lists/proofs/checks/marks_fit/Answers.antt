@@ -1,23 +1,27 @@
--- `marks_fit` meets its contract: what the words so far say, and what those that are left say, is what all say.
-use mathlib.Core.Path.{refl}
-use native.Mathlib.Omega.{arith}
-use Rattle.set_lists.proofs.Marks.{fitting_starts, fitting_turn, fitting_ends}
+-- `marks_fit` meets its contract: the words that are left say of their positions what all say.
+use Rattle.std.proofs.Common.{◌∙◌, ◌&&◌, ◌+◌, ◌-◌, sym, ap, ap₂, drop, arith}
+use Rattle.lists.proofs.Walks.{next, end}
+use Rattle.set_lists.proofs.Marks.{fits, fits_all}
 use Rattle.set_lists.proofs.checks.marks_fit.Goals as goal
 
-pub loop-i-init : goal.loop-i-init
-loop-i-init c = (omega arith, refl, fitting_starts c.args.rows c.args.marks.now)
+pub returns-then-not-is_mark_word : goal.returns-then-not-is_mark_word
+unfolding fits
+returns-then-not-is_mark_word c =
+    let l = c.loop-w in
+    let marks = c.args.marks.now in
+    sym (fits_all c.args.rows marks ∙ l.invariant ∙ ap (fits l.held) (next 0 marks l.w-index (omega arith))
+    ∙ ap (λ b. b && fits (l.held - 30) (drop (l.w-index + 1) marks)) (sym c.is_mark_word.ensures ∙ c.if-not-is_mark_word.true))
 
-pub loop-i-preserved : goal.loop-i-preserved
-loop-i-preserved c =
-    let l = c.loop-i in
-    let s = c.args in (
-      omega arith,
-      omega (arith, l.invariant.1),
-      fitting_turn s.rows s.marks.now l.fit c.is_mark_word-fit.result l.from l.i (omega arith) c.is_mark_word-fit.ensures l.invariant.2,
-    )
+pub loop-w-preserved : goal.loop-w-preserved
+unfolding fits
+loop-w-preserved c =
+    let l = c.loop-w in
+    let marks = c.args.marks.now in
+    l.invariant ∙ ap (fits l.held) (next 0 marks l.w-index (omega arith))
+    ∙ ap₂ (λ b k. b && fits k (drop (l.w-index + 1) marks)) (sym c.is_mark_word.ensures ∙ c.if-not-is_mark_word.false) (sym c.saturating_sub-held.ensures)
 
 pub returns : goal.returns
+unfolding fits
 returns c =
-    let l = c.loop-i in
-    let s = c.args in
-    fitting_ends s.rows s.marks.now l.fit l.from l.i (omega arith) l.invariant.2
+    let l = c.loop-w in
+    sym (fits_all c.args.rows c.args.marks.now ∙ l.invariant ∙ ap (fits l.held) (end c.args.marks.now l.w-index (omega arith)))

@@ -1,13 +1,7 @@
--- `marks_fit` meets its contract: what the words so far say, and what those that are left say, is what all say.
-use mathlib.Core.Path.{◌≡◌}
-use Prim.Native.Nat.{◌*◌, ◌-◌, ◌≤◌}
-use lib.ListN.{length}
-use Rattle.definitions.specs.Limits.{marks_per_word}
-use Rattle.set_lists.proofs.Marks.{Fitting}
+-- `marks_fit` meets its contract: the words that are left say of their positions what all say.
+use Rattle.std.proofs.Common.{◌≡◌, drop}
+use Rattle.set_lists.proofs.Marks.{fits}
 use Rattle.set_lists.proofs.checks.marks_fit.Given as goal
 
-abbrev pub invariant-loop-i : goal.invariant-loop-i
-invariant-loop-i l = (l.i ≤ length l.marks) × (l.from ≡ marks_per_word * l.i) × Fitting l.rows l.marks l.fit l.from l.i
-
-abbrev pub decreases-loop-i : goal.decreases-loop-i
-decreases-loop-i l = length l.marks - l.i
+abbrev pub invariant-loop-w : goal.invariant-loop-w
+invariant-loop-w l = fits l.rows l.marks ≡ fits l.held (drop l.w-index l.marks)

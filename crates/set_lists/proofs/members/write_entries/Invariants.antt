@@ -1,12 +1,8 @@
 -- `write_entries` meets its contract: the words of the records so far, and the records that are left.
-use Prim.Native.Nat.{◌-◌}
 use Rattle.definitions.specs.ReadBack.{read_record}
-use Rattle.definitions.specs.Limits.{mark_words, set_width}
-use Rattle.lists.proofs.RowWriting.{RowsWritten}
+use Rattle.definitions.specs.Limits.{mark_words}
+use Rattle.set_lists.proofs.Parts.{Each}
 use Rattle.set_lists.proofs.members.write_entries.Given as goal
 
-abbrev pub invariant-loop-i : goal.invariant-loop-i
-invariant-loop-i l = RowsWritten (read_record mark_words) set_width l.count l.records l.initial.out 0 l.i l.start l.out l.end
-
-abbrev pub decreases-loop-i : goal.decreases-loop-i
-decreases-loop-i l = l.count - l.i
+abbrev pub invariant-loop-set : goal.invariant-loop-set
+invariant-loop-set l = Each (read_record mark_words) l.records l.initial.out l.set-index l.out l.count

@@ -1,23 +1,18 @@
--- `write_entry` meets its contract: the number of members, their positions, and then the position of the joined row.
-use Prim.Native.Nat.{◌≤◌}
-use native.Mathlib.Omega.{arith}
-use lib.ListN.{length}
-use lib.Seq.{length-take-le}
+-- `write_entry` meets its contract: the members, their number before them, and the position of the joined row behind them.
+use Rattle.std.proofs.Common.{arith}
 use Rattle.definitions.specs.Limits.{mark_words}
-use Rattle.set_lists.proofs.Entries.{members_fit, row_room, entry_written}
+use Rattle.set_lists.proofs.Entries.{members_fit, members_small, row_room, entry_written}
 use Rattle.set_lists.proofs.members.write_entry.Goals as goal
 
-pub write_members-end-requires : goal.write_members-end-requires
-write_members-end-requires c =
-    let set = c.args.set.now in
-    let wide : mark_words ≤ length set = omega (arith, c.requires.set_len) in record { marks_len_bound = omega (arith, length-take-le mark_words set wide); fits = members_fit mark_words set c.args.out.now _ wide c.count_members.ensures c.requires.fits }
+pub write_members-members-requires-clause-fits : goal.write_members-members-requires-clause-fits
+write_members-members-requires-clause-fits c = members_fit mark_words c.args.set.now c.args.out.now (omega arith) c.requires
 
-pub bounds-out-end : goal.bounds-out-end
-bounds-out-end c =
-    row_room mark_words c.args.set.now c.args.out.now _ (omega (arith, c.requires.set_len)) c.count_members.ensures c.requires.fits
-    c.write_members-end.ensures
+pub overflow_cast-out : goal.overflow_cast-out
+overflow_cast-out c =
+    omega (arith, members_small mark_words c.args.set.now c.args.out.now (omega arith) c.requires c.write_members-members.ensures)
+
+pub bounds-out-members : goal.bounds-out-members
+bounds-out-members c = row_room mark_words c.args.set.now c.args.out.now (omega arith) c.requires c.write_members-members.ensures _
 
 pub returns : goal.returns
-returns c =
-    entry_written mark_words c.args.set.now c.args.out.now _ (omega (arith, c.requires.set_len)) c.count_members.ensures c.requires.fits
-    c.write_members-end.ensures c.low_bits.ensures
+returns c = entry_written mark_words c.args.set.now c.args.out.now (omega arith) c.requires c.write_members-members.ensures c.low_bits.ensures

@@ -1,27 +1,23 @@
--- `compare_marks` meets its contract: the words so far are equal, and the first that differ tell.
-use mathlib.Core.Path.{◌∙◌}
-use native.Mathlib.Omega.{arith}
-use Rattle.set_lists.proofs.MarkOrder.{differ, equal_turn, equal_end}
+-- `compare_marks` meets its contract: the order of the first two words that differ.
+use Rattle.std.proofs.Common.{◌∙◌, rules, tests, sym, ap, unwrap_or}
+use Rattle.std.specs.declared.cmp.Ordering.TheVariants.{Equal}
+use Rattle.std.proofs.lemmas.Iterator.{YieldsList-from_slice, YieldsList-from_zip, YieldsList-from_map}
+use Rattle.std.proofs.lemmas.Iterator.Consumers.{YieldsList-at}
+use Rattle.std.proofs.lemmas.Iterator.Search.{find_from_yields_List}
+use Rattle.std.proofs.lemmas.Iterator.Adapters.{option_map_id}
+use Rattle.std.specs.Ordering.{is_ne}
+use Rattle.set_lists.proofs.MarkOrder.{compare_low, first_apart}
 use Rattle.set_lists.proofs.order.compare_marks.Goals as goal
-
-pub returns-then-x-y : goal.returns-then-x-y
-returns-then-x-y c =
-    let l = c.loop-i in
-    c.compare.ensures
-    ∙ differ c.args.a.now c.args.b.now c.requires l.i (l.invariant.1 c.requires) (omega arith)
-    c.low_bits-x.result c.low_bits-y.result c.low_bits-x.ensures c.low_bits-y.ensures c.if-x-y.true
-
-pub loop-i-preserved : goal.loop-i-preserved
-loop-i-preserved c =
-    let l = c.loop-i in
-    let s = c.args in (
-      omega arith,
-      λ size.
-          equal_turn s.a.now s.b.now size l.i (l.invariant.1 size) (omega arith)
-          c.low_bits-x.result c.low_bits-y.result c.low_bits-x.ensures c.low_bits-y.ensures c.if-x-y.false,
-    )
 
 pub returns : goal.returns
 returns c =
-    let l = c.loop-i in
-    equal_end c.args.a.now c.args.b.now c.requires l.i (l.invariant.1 c.requires) (omega arith)
+    let a = c.args.a.now in
+    let b = c.args.b.now in
+    let found = find_from_yields_List is_ne c.find.new.self _ c.find.result c.find.ensures.ran
+    (YieldsList-from_map _ compare_low
+    (YieldsList-at c.map.ensures.source (YieldsList-from_zip (YieldsList-from_slice a cc) (YieldsList-from_slice b cc)))
+    c.map.ensures.closure (λ x r q k. search rules))
+    (λ x b q k. search (rules, tests)) in
+    c.unwrap_or.ensures
+    ∙ ap (λ o. unwrap_or o Equal) (sym (option_map_id c.find.result) ∙ found)
+    ∙ first_apart a b c.requires

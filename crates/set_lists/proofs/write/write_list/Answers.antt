@@ -1,35 +1,35 @@
--- `write_list` meets its contract. The loop's invariant: the records of the first k sets stand after the header.
-use borrow.Author.Rules.{rules}
-use mathlib.Core.Path.{◌≡◌}
-use Prim.Native.Nat.{◌<◌}
-use native.Mathlib.Omega.{arith}
-use lib.ListN.{length, set, length-set}
-use Rattle.set_lists.proofs.Records.{records_turn, records_end}
+-- `write_list` meets its contract: the header and the records of the sets so far are written.
+use Rattle.std.proofs.Common.{◌∙◌, arith}
+use Rattle.std.proofs.lemmas.List.{length_push}
+use Rattle.std.proofs.lemmas.Slice.Zip.{zip_turn, zip_end}
+use Rattle.definitions.specs.Limits.{mark_words, set_width}
+use Rattle.definitions.proofs.Counts.{record_length}
+use Rattle.set_lists.proofs.Parts.{copied_over}
+use Rattle.set_lists.proofs.Records.{list_start, record_room, record_turn, list_end}
 use Rattle.set_lists.proofs.write.write_list.Goals as goal
-use Rattle.set_lists.proofs.write.write_list.Goals.{After-slice_known-in-loop-k-1}
 
-module _ (c : After-slice_known-in-loop-k-1) where
-  -- the header leaves the buffer's length
-  headed_size : length (set c.args.buffer.now 0 c.header_word.result) ≡ length c.args.buffer.now
-  headed_size = length-set c.args.buffer.now 0 c.header_word.result
+pub loop-set-init : goal.loop-set-init
+loop-set-init c = ((tt, tt), tt, list_start c.args.sets.now c.args.positions.now c.args.buffer.now c.requires.0 c.requires.1 c.header_word.ensures)
 
-  more : c.loop-k.k < c.args.count
-  more = search rules
-
-pub loop-k-preserved : goal.loop-k-preserved
-loop-k-preserved c =
-    let l = c.loop-k in
+pub loop-set-preserved : goal.loop-set-preserved
+loop-set-preserved c =
     let s = c.args in
-    let headed_buffer = set s.buffer.now 0 c.header_word.result in (
-      search rules,
-      omega (arith, l.invariant.1),
-      records_turn s.count s.sets.now s.positions.now s.buffer.now c.requires.0.enough_sets c.requires.0.enough_positions c.requires.1 headed_buffer
-          l.buffer c.write_record.new.buffer l.k l.at (headed_size c) (more c) l.invariant.1 l.invariant.2 c.write_record.ensures,
+    let l = c.loop-set in
+    let t = zip_turn s.sets.now s.positions.now l.yielded _ _ c.next.new.self _ (cc) (cc) l.yielded_by _ c.in-Some.is c.next.ensures.steps in
+    let w = l.invariant.2 in
+    let set = c.in-Some.set.now in
+    let position = c.in-Some.position.now in
+    let room = record_room s.sets.now s.positions.now s.buffer.now c.requires.0 c.requires.1 w t.0 set position (t.2 0) (t.3 0) in
+    let written = copied_over l.buffer l.at set_width room (record_length mark_words set position) (c.copy_from_slice.ensures.after ∙ c.record_of.ensures) in (
+      (tt, tt),
+      tt,
+      record_turn s.sets.now s.positions.now s.buffer.now c.requires.0 c.requires.1 w t.0 set position (t.2 0) (t.3 0)
+          (length_push l.yielded (c.in-Some.set, c.in-Some.position)) written,
     )
 
 pub returns : goal.returns
 returns c =
-    let l = c.loop-k in
     let s = c.args in
-    records_end s.count s.sets.now s.positions.now s.buffer.now c.requires.0.enough_sets c.requires.0.enough_positions c.requires.1
-    l.buffer c.header_word.result l.k (omega arith) c.header_word.ensures l.invariant.2
+    let l = c.loop-set in
+    let count = zip_end s.sets.now s.positions.now l.yielded _ _ c.next.new.self _ (cc) (cc) l.yielded_by c.in-None.is c.next.ensures.steps in
+    list_end s.sets.now s.positions.now s.buffer.now c.requires.0 c.requires.1 l.invariant.2 (omega (arith, count, c.requires.0.paired))

@@ -2,23 +2,24 @@
 use mathlib.Core.Path.{sym, ◌∙◌, ap}
 use mathlib.Core.List.{map}
 use Prim.Native.Nat.{ℕ}
-use native.Mathlib.Nat.{zero-add}
 use native.Mathlib.Omega.{arith}
-use lib.ListN.{length-map, get_or-map}
+use lib.ListN.{length-map}
+use lib.Seq.{ext_get_or}
 use Rattle.definitions.specs.Word.{id_of}
-use Rattle.lists.proofs.Pastes.{map_turn}
-use Rattle.tables.specs.UnionIds.{smaller_than}
-use borrow.Author.Rules.{rules}
+use Rattle.definitions.proofs.Lists.{map_at}
+use Rattle.tables.specs.UnionIds.{smaller_than, indices_in}
 use Rattle.tables.proofs.widen.column_indices.Goals as goal
 
-pub loop-j-preserved : goal.loop-j-preserved
-loop-j-preserved c =
+pub returns : goal.returns
+returns c =
     let l = c.loop-j in
-    let a = c.args in
-    let ids = map id_of a.columns.now in
-    let f : ℕ → ℕ = λ id. smaller_than id a.union.now in
-    let n = length-map a.columns.now id_of in (
-      search rules,
-      map_turn f a.indices.now 0 ids (omega arith) l.j _ l.indices (id_of 0) _ l.invariant.1 (sym (zero-add l.j)) (omega arith)
-          (c.smaller.ensures ∙ ap f (c.id.ensures ∙ sym (get_or-map id_of a.columns.now l.j 0))),
-    )
+    let columns = c.args.columns.now in
+    let union = c.args.union.now in
+    let ids = map id_of columns in
+    let n = length-map columns id_of in
+    let m = length-map ids (λ id. smaller_than id union) in
+    let size = l.auto.indices in
+    let end = c.loop-j-test.false in
+    ext_get_or 0 l.indices (indices_in union ids) (omega (arith, c.requires.0)) (λ k h.
+    l.invariant k (omega (arith, c.requires.0)) ∙ ap (λ (id : ℕ). smaller_than id union) (sym (map_at id_of 0 0 columns k (omega (arith, c.requires.0))))
+    ∙ sym (map_at (λ id. smaller_than id union) 0 0 ids k (omega (arith, c.requires.0))))

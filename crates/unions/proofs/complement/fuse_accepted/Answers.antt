@@ -5,4 +5,4 @@ use Rattle.unions.proofs.complement.fuse_accepted.Goals as goal
 
 pub returns : goal.returns
 returns c =
-    union_promised c.requires (filled_new c.requires c.new-t.result c.new-t.ensures c.union_rows.ensures) c.fuse_table.ensures
+    union_promised c.args.pair.now.found (filled_new c.args.pair.now.found c.new-t.result c.new-t.ensures c.union_rows.ensures) c.fuse_table.ensures

@@ -1,21 +1,18 @@
 -- Each return is a case of the questions 10 and 11: a refusal with both buffers as they were, or done with the fused table and the set list.
-use native.Mathlib.Omega.{arith}
-use Rattle.unions.proofs.Fusing.{fused_listable, fused_refused, fused_done}
+use Rattle.std.proofs.Common.{rules}
+use Rattle.unions.proofs.Fusing.{fused_listable, refused_fused, fused_done}
 use Rattle.unions.proofs.fused.write_fused.Goals as goal
 
-pub returns-then-number-ne0 : goal.returns-then-number-ne0
-returns-then-number-ne0 c =
+pub returns-in_err-check_room : goal.returns-in_err-check_room
+returns-in_err-check_room c =
     let s = c.args in
-    fused_refused c.requires.listed_table c.fuse_rows-rows.ensures s.table.now s.sets.now _ c.check_room-number.ensures c.if-number-ne0.true
+    refused_fused c.requires.listed c.requires.fused_rows s.table.now s.sets.now _ c.check_room.ensures _ c.in_err-check_room.was _ (search rules)
 
 pub write_list-requires : goal.write_list-requires
-write_list-requires c = (
-  fused_listable c.requires.listed_table c.fuse_rows-rows.ensures (omega (arith, c.requires.room_for.positions_too, c.fuse_rows-rows.auto.positions)),
-  (c.check_room-number.ensures.fits c.if-number-ne0.false).1,
-)
+write_list-requires c = (fused_listable c.requires.listed c.requires.fused_rows c.requires.room, (c.check_room.ensures.fits _ c.in_ok-check_room.was).1)
 
 pub returns : goal.returns
 returns c =
     let s = c.args in
-    fused_done c.requires.listed_table c.fuse_rows-rows.ensures s.table.now s.sets.now _ c.check_room-number.ensures c.if-number-ne0.false _ _ _ c.write_image-filled.ensures
+    fused_done c.requires.listed c.requires.fused_rows s.table.now s.sets.now _ c.check_room.ensures _ c.in_ok-check_room.was _ _ _ c.write_image-filled.ensures
     c.write_list.ensures

@@ -1,4 +1,5 @@
 -- The rows of T that none subsumes are the minimum union: question 10 is put to its image.
+use Rattle.std.proofs.Common.{rules}
 use mathlib.Core.Path.{◌∙◌, ap}
 use mathlib.Core.List.{[], ◌∷◌}
 use Prim.Native.Nat.{ℕ, ◌≤◌}
@@ -10,26 +11,26 @@ use Rattle.unions.proofs.Tables.{filled_new, minimum_result}
 use Rattle.unions.proofs.Ends.{refused_room, done_room}
 use Rattle.unions.proofs.minimal.minimise_accepted.Goals as goal
 
-pub put_image-put-requires : goal.put_image-put-requires
-put_image-put-requires c =
-    let held = filled_new c.requires c.new-t.result c.new-t.ensures c.union_rows.ensures in
+pub put_image-requires : goal.put_image-requires
+put_image-requires c =
+    let held = filled_new c.args.pair.now.found c.new-t.result c.new-t.ensures c.union_rows.ensures in
     let within : c.minimum_rows-left.result.rows ≤ length c.minimum_rows-left.new.kept = omega (arith, c.minimum_rows-left.ensures.count, held.few_rows, c.minimum_rows-left.auto.kept) in
-    let result = minimum_result c.args.a.now c.args.b.now within held c.minimum_rows-left.ensures in
+    let result = minimum_result c.args.pair.now.first.now c.args.pair.now.second.now within held c.minimum_rows-left.ensures in
     result.can
 
-pub returns-then-number-ne0 : goal.returns-then-number-ne0
+pub returns-in_err-put : goal.returns-in_err-put
 unfolding minimum_outcome minimum_image
-returns-then-number-ne0 c =
-    let held = filled_new c.requires c.new-t.result c.new-t.ensures c.union_rows.ensures in
+returns-in_err-put c =
+    let held = filled_new c.args.pair.now.found c.new-t.result c.new-t.ensures c.union_rows.ensures in
     let within : c.minimum_rows-left.result.rows ≤ length c.minimum_rows-left.new.kept = omega (arith, c.minimum_rows-left.ensures.count, held.few_rows, c.minimum_rows-left.auto.kept) in
-    let result = minimum_result c.args.a.now c.args.b.now within held c.minimum_rows-left.ensures in
-    refused_room c.requires result c.put_image-put.ensures _ c.if-number-ne0.true
+    let result = minimum_result c.args.pair.now.first.now c.args.pair.now.second.now within held c.minimum_rows-left.ensures in
+    refused_room c.args.pair.now.found result c.put_image.ensures _ _ c.in_err-put.was _ _ (search rules)
 
 pub returns : goal.returns
 unfolding minimum_outcome minimum_image
 returns c =
-    let held = filled_new c.requires c.new-t.result c.new-t.ensures c.union_rows.ensures in
+    let held = filled_new c.args.pair.now.found c.new-t.result c.new-t.ensures c.union_rows.ensures in
     let within : c.minimum_rows-left.result.rows ≤ length c.minimum_rows-left.new.kept = omega (arith, c.minimum_rows-left.ensures.count, held.few_rows, c.minimum_rows-left.auto.kept) in
-    let result = minimum_result c.args.a.now c.args.b.now within held c.minimum_rows-left.ensures in
+    let result = minimum_result c.args.pair.now.first.now c.args.pair.now.second.now within held c.minimum_rows-left.ensures in
     let p = c.minimum_rows-left.ensures.tried ∙ ap pairs_tried held.rows_are in
-    done_room c.requires result c.put_image-put.ensures _ c.if-number-ne0.false _ (ap (λ (x : ℕ). x ∷ []) p)
+    done_room c.args.pair.now.found result c.put_image.ensures _ _ c.in_ok-put.was _ (ap (λ (x : ℕ). x ∷ []) p)

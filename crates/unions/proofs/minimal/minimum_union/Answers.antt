@@ -1,11 +1,11 @@
 -- Refused by one of the questions 1 to 8, or what the accepted pair gets.
+use Rattle.std.proofs.Common.{rules}
 use Rattle.definitions.specs.Calls.{minimum_outcome, minimum_image}
 use Rattle.unions.proofs.Ends.{refused_pair}
 use Rattle.unions.proofs.minimal.minimum_union.Goals as goal
 
-pub returns-then-number-ne0 : goal.returns-then-number-ne0
+pub returns-in_err-pair : goal.returns-in_err-pair
 unfolding minimum_outcome
-returns-then-number-ne0 c =
-    let k = c.check_pair-checks in
+returns-in_err-pair c =
     let s = c.args in
-    refused_pair k.result k.ensures _ (minimum_image s.a.now s.b.now) s.table.now c.if-number-ne0.true
+    refused_pair c.check_pair.result c.check_pair.ensures _ (minimum_image s.a.now s.b.now) s.table.now _ c.in_err-pair.was _ _ (search rules)

@@ -1,0 +1,115 @@
+// Refusals: the question, or check, that is answered no, and the table that it was put to.
+ghost use Rattle.std.specs.Prelude.{◌≡◌};
+ghost use Rattle.definitions.specs.declared.refusal.Subject.TheVariants.{Both};
+ghost use Rattle.definitions.specs.Refusal.{question_number, table_number, put_to};
+
+use std::error::Error;
+use std::fmt;
+
+// The questions of document 01, in their order, and the checks of the requests, each by what it asks.
+#[derive(Clone, Copy, Debug, PartialEq, Eq)]
+pub enum Question {
+    Header,
+    Columns,
+    Rows,
+    Length,
+    ColumnWords,
+    Ids,
+    Cells,
+    UnionColumns,
+    Sets,
+    TableRoom,
+    SetRoom,
+    ListLayout,
+    Records,
+    SetOrder,
+    Page,
+    PageRoom,
+}
+
+impl Question {
+    // Its number in the documents.
+    pub fn number(self) -> u32
+        ensures { result ≡ question_number self }
+    {
+        match self {
+            Question::Header => 1,
+            Question::Columns => 2,
+            Question::Rows => 3,
+            Question::Length => 4,
+            Question::ColumnWords => 5,
+            Question::Ids => 6,
+            Question::Cells => 7,
+            Question::UnionColumns => 8,
+            Question::Sets => 9,
+            Question::TableRoom => 10,
+            Question::SetRoom => 11,
+            Question::ListLayout => 12,
+            Question::Records => 13,
+            Question::SetOrder => 14,
+            Question::Page => 15,
+            Question::PageRoom => 16,
+        }
+    }
+
+    // A no to it, where it was put to this table.
+    pub fn put_to(self, subject: Subject) -> Refusal
+        ensures { result ≡ put_to subject self }
+    {
+        Refusal {
+            question: self,
+            subject,
+        }
+    }
+}
+
+// The table that a question is put to: the first or only one, the second, or what both make.
+#[derive(Clone, Copy, Debug, PartialEq, Eq)]
+pub enum Subject {
+    First,
+    Second,
+    Both,
+}
+
+impl Subject {
+    // Its number in an answer.
+    pub fn number(self) -> u32
+        ensures { result ≡ table_number self }
+    {
+        match self {
+            Subject::First => 0,
+            Subject::Second => 1,
+            Subject::Both => 2,
+        }
+    }
+}
+
+// "A refusal gives the number and the table".
+#[derive(Clone, Copy, Debug, PartialEq, Eq)]
+pub struct Refusal {
+    pub question: Question,
+    pub subject: Subject,
+}
+
+// A question that is put to no single table.
+impl From<Question> for Refusal {
+    ghost from_gives = { λ q r. r ≡ put_to Both q };
+
+    fn from(question: Question) -> Refusal {
+        question.put_to(Subject::Both)
+    }
+}
+
+// As the program `fuse` prints it.
+impl fmt::Display for Refusal {
+    fn fmt<W: fmt::Write>(&self, f: &mut fmt::Formatter<W>) -> fmt::Result {
+        write!(
+            f,
+            "refused {} table {}",
+            self.question.number(),
+            self.subject.number()
+        )
+    }
+}
+
+impl Error for Refusal {}

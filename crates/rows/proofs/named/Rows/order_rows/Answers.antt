@@ -1,0 +1,24 @@
+-- `order_rows` puts the indices of all rows in order (Numbered).
+use Prim.Native.Nat.{◌≤◌, ◌+◌, ◌*◌}
+use native.Mathlib.Omega.{arith}
+use lib.ListN.{length, take}
+use Rattle.lists.proofs.Flat.{row_fits}
+use Rattle.rows.proofs.Numbered.{all_fit, all_ordered}
+use Rattle.rows.proofs.named.Rows.order_rows.Goals as goal
+
+pub sort-requires : goal.sort-requires
+sort-requires c =
+    let t = c.args.self.now in
+    let n = length c.args.order.now in (
+      all_fit t.width n t.cells.now c.number.new.order c.number.auto.order c.number.ensures
+          (λ i. i * t.width + t.width ≤ length t.cells.now) (λ k h. omega (arith, row_fits t.width n k h, c.requires.2)),
+      omega (arith, c.number.auto.order, c.requires.1),
+    )
+
+pub returns : goal.returns
+returns c =
+    let t = c.args.self.now in
+    let n = length c.args.order.now in (
+      omega (arith, c.sort.ensures.0, c.number.auto.order),
+      all_ordered t.width n t.cells.now c.number.new.order c.number.auto.order c.number.ensures (take c.sort.result c.sort.new.list) c.sort.ensures.1,
+    )

@@ -1,0 +1,13 @@
+-- The header is there, and says that the columns are few.
+use native.Mathlib.Omega.{arith}
+use Rattle.definitions.specs.Limits.{max_rows}
+use Rattle.definitions.proofs.Questions.{passed_is}
+use Rattle.tables.proofs.image.Image.columns.Goals as goal
+
+pub bounds-self-0 : goal.bounds-self-0
+bounds-self-0 c = ((passed_is max_rows c.args.self.words.now).0 c.args.self.accepted).first_word
+
+pub returns-clause-few : goal.returns-clause-few
+returns-clause-few c =
+    let few = ((passed_is max_rows c.args.self.words.now).0 c.args.self.accepted).few_columns in
+    omega (arith, c.columns.ensures)

@@ -1,5 +1,0 @@
--- `put_number` meets its contract: the digits before the last one are those of a tenth. The measure is the number.
-use Rattle.text.proofs.+put_number.Given as goal
-
-abbrev pub decreases-put_number : goal.decreases-put_number
-decreases-put_number l = l.n

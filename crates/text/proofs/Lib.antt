@@ -1,0 +1,2 @@
+-- Laws of texts that are written behind one another.
+pub mod Writing

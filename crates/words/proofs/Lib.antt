@@ -1,2 +1,0 @@
--- Laws of the words' fields.
-pub mod Fields
