@@ -17,7 +17,8 @@ use Rattle.definitions.specs.ComplementUnion.{contains}
 use Rattle.definitions.specs.SetList.{bits}
 use Rattle.definitions.proofs.SetWords.{bit-marks}
 use Rattle.definitions.proofs.Reading.{one_marks}
-use Rattle.definitions.proofs.Bools.{bool_cases, bool_eq, clash, not_so, and_l, and_r, and_i, or_l, or_r, or_cases}
+use Rattle.std.proofs.lemmas.Bool.{and_from, and_parts, false_from_ne_true, or_cases, or_left, or_right}
+use Rattle.definitions.proofs.Bools.{bool_cases, bool_eq, clash}
 use Rattle.bitsets.specs.Bits.{has, both, either, is_sub, but_not, with_row, only_one, rows_below, Inside, lowest, without_lowest}
 
 -- position k is in the set
@@ -126,7 +127,7 @@ unfolding with_row
 has_with c i k = has-or c (2 ^ i) k ∙ ap (λ (b : Bool). has c k || b) (has-pow i k)
 
 pub has_with_self : (c i : ℕ) → In (with_row c i) i
-has_with_self c i = has_with c i i ∙ or_r (has c i) (eqb i i) (eq-eqb i i refl)
+has_with_self c i = has_with c i i ∙ or_right (has c i) (eqb i i) (eq-eqb i i refl)
 
 pub has_with_old : (c i k : ℕ) → In c k → In (with_row c i) k
 has_with_old c i k h = has_with c i k ∙ ap (λ (b : Bool). b || eqb k i) h
@@ -170,10 +171,10 @@ same_set a b f g = has_ext a b (λ k. bool_eq (has a k) (has b k) (f k) (g k))
 -- ---- unions, intersections and subsets
 
 pub or_in_l : (a b k : ℕ) → In a k → In (bit_or a b) k
-or_in_l a b k h = has-or a b k ∙ or_l (has a k) (has b k) h
+or_in_l a b k h = has-or a b k ∙ or_left (has a k) (has b k) h
 
 pub or_in_r : (a b k : ℕ) → In b k → In (bit_or a b) k
-or_in_r a b k h = has-or a b k ∙ or_r (has a k) (has b k) h
+or_in_r a b k h = has-or a b k ∙ or_right (has a k) (has b k) h
 
 pub either_l : (a b k : ℕ) → In a k → In (either a b) k
 unfolding either
@@ -188,13 +189,13 @@ unfolding either
 either_cases a b k h f g = ⊎_elim f g (or_cases (has a k) (has b k) (sym (has-or a b k) ∙ h))
 
 pub both_in_lem : (a b k : ℕ) → In a k → In b k → In (both a b) k
-both_in_lem a b k p q = has_both a b k ∙ and_i p q
+both_in_lem a b k p q = has_both a b k ∙ and_from _ _ p q
 
 pub both_l : (a b k : ℕ) → In (both a b) k → In a k
-both_l a b k h = and_l (has a k) (has b k) (sym (has_both a b k) ∙ h)
+both_l a b k h = (and_parts (has a k) (has b k) (sym (has_both a b k) ∙ h)).0
 
 pub both_r : (a b k : ℕ) → In (both a b) k → In b k
-both_r a b k h = and_r (has a k) (has b k) (sym (has_both a b k) ∙ h)
+both_r a b k h = (and_parts (has a k) (has b k) (sym (has_both a b k) ∙ h)).1
 
 pub sub_same : (a b : ℕ) → is_sub a b ≡ true → both a b ≡ a
 unfolding is_sub
@@ -272,7 +273,7 @@ below_in (suc i) (suc k) h = has-suc (2 ^ suc i - 1) k ∙ ap (λ (x : ℕ). has
 
 -- ---- the lowest position, and the others
 
-below_pow : (n : ℕ) → n < 2 ^ n
+pub below_pow : (n : ℕ) → n < 2 ^ n
 below_pow zero = omega arith
 below_pow (suc n) = let p = pow-succ' 2 n in omega (arith, below_pow n)
 
@@ -332,7 +333,7 @@ rest_of set m k l h d =
 
 pub rest_out : (set m : ℕ) → Lowest set m → has (without_lowest set) m ≡ false
 unfolding without_lowest both
-rest_out set m l = not_so (has (bit_and set (set - 1)) m) (λ h. clash (both_r set (set - 1) m h) (pred_at set m l))
+rest_out set m l = false_from_ne_true (has (bit_and set (set - 1)) m) (λ h. clash (both_r set (set - 1) m h) (pred_at set m l))
 
 pub rest_less : (set : ℕ) → 0 < set → without_lowest set < set
 unfolding without_lowest
@@ -366,7 +367,7 @@ only_one_out a b k h = beq_same (has a k) (has b k) (sym (has_one a b k) ∙ h)
 
 pub but_in : (a b k : ℕ) → In a k → has b k ≡ false → In (but_not a b) k
 unfolding but_not
-but_in a b k p q = only_one_of a (both a b) k p (not_so (has (both a b) k) (λ h. clash (both_r a b k h) q))
+but_in a b k p q = only_one_of a (both a b) k p (false_from_ne_true (has (both a b) k) (λ h. clash (both_r a b k h) q))
 
 pub but_l : (a b k : ℕ) → In (but_not a b) k → In a k
 unfolding but_not
@@ -374,7 +375,7 @@ but_l a b k h = bool_cases (has a k) (λ e. e) (λ e. both_l a b k (only_one_in 
 
 pub but_out : (a b k : ℕ) → In (but_not a b) k → has b k ≡ false
 unfolding but_not
-but_out a b k h = not_so (has b k) (λ q. let p = but_l a b k h in clash (both_in_lem a b k p q) (only_one_in a (both a b) k h ∙ ap not p))
+but_out a b k h = false_from_ne_true (has b k) (λ q. let p = but_l a b k h in clash (both_in_lem a b k p q) (only_one_in a (both a b) k h ∙ ap not p))
 
 -- ---- a part of a set
 

@@ -1,14 +1,19 @@
--- How many positions a set has: none, one less without the lowest, fewer in a part of it, and those of two parts together. Assumes nothing.
-use mathlib.Core.Path.{◌≡◌, refl, ap₂, subst}
+-- How many positions a set has: none, one less without the lowest, fewer in a part of it, those of two parts together, and as many as the
+-- number has ones. Assumes nothing.
+use mathlib.Core.Path.{◌≡◌, refl, sym, ◌∙◌, ap, ap₂, subst}
 use mathlib.Core.Bool.{Bool, true, false, cond}
 use Prim.Native.Nat.{ℕ, zero, suc, ◌+◌, ◌≤◌, ◌<◌}
 use native.Mathlib.Nat.{not-suc-le-zero, lt-suc_self}
 use native.Mathlib.Decide.{le_ind}
 use native.Mathlib.Omega.{arith}
-use Rattle.definitions.proofs.Bools.{bool_cases, bool_eq, clash, not_so}
+use lib.Count.{ones}
+use lib.ListN.{length}
+use Rattle.std.proofs.lemmas.Bool.{false_from_ne_true}
+use Rattle.definitions.proofs.Bools.{bool_cases, bool_eq, clash}
 use Rattle.definitions.proofs.Lists.{below_cases}
 use Rattle.bitsets.specs.Bits.{has, but_not, Inside, Sub, lowest, without_lowest, rows_below, size_below}
-use Rattle.bitsets.proofs.Bits.{In, has_none, rest_in, rest_of, rest_out, at_lowest, below_in, but_in, but_l, but_out}
+use Rattle.bitsets.proofs.Bits.{In, has_none, rest_in, rest_of, rest_out, rest_less, rest_inside, at_lowest, digit_below, below_pow, below_in, but_in, but_l, but_out}
+use Rattle.bitsets.proofs.Positions.{positions_next, positions_ones}
 
 -- the count of one bit
 abbrev bit : Bool → ℕ
@@ -73,7 +78,7 @@ size_parts zero a b f = refl
 size_parts (suc n) a b f =
     let e = size_parts n a b f in
     bool_cases (has b n)
-    (λ t. rw (t, f n t, not_so (has (but_not a b) n) (λ h. clash t (but_out a b n h))) (omega arith))
+    (λ t. rw (t, f n t, false_from_ne_true (has (but_not a b) n) (λ h. clash t (but_out a b n h))) (omega arith))
     (λ t. rw (t, bool_eq (has (but_not a b) n) (has a n) (but_l a b n) (λ h. but_in a b n h t)) (omega arith))
 
 pub size_some : (n set k : ℕ) → Inside set n → In set k → 0 < size_below n set
@@ -85,4 +90,27 @@ pub size_wide : (n width set : ℕ) → n ≤ width → Inside set n → size_be
 unfolding size_below
 size_wide n width set h f =
     le_ind (λ (m : ℕ). size_below m set ≡ size_below n set) refl
-    (λ m l e. rw (not_so (has set m) (λ p. let lt = f m p in omega arith)) (omega arith)) width h
+    (λ m l e. rw (false_from_ne_true (has set m) (λ p. let lt = f m p in omega arith)) (omega arith)) width h
+
+-- ---- as many as the number has ones
+
+ones_next : (set : ℕ) → 0 < set → ones set ≡ suc (ones (without_lowest set))
+ones_next set some =
+    let h = below_pow set in
+    sym (positions_ones set 0 set h)
+    ∙ ap length (positions_next set 0 set some (λ k. digit_below set set k h))
+    ∙ ap suc (positions_ones set 0 (without_lowest set) (omega (arith, h, rest_less set some)))
+
+-- by the positions that are left
+ones_left : (left n set : ℕ) → set ≤ left → Inside set n → size_below n set ≡ ones set
+unfolding ones
+ones_left left n zero le h = size_none n
+ones_left zero n (suc set) le h = absurd (not-suc-le-zero le)
+ones_left (suc left) n (suc set) le h =
+    let less = rest_less (suc set) (omega arith) in
+    size_next n (suc set) (omega arith) h
+    ∙ ap suc (ones_left left n (without_lowest (suc set)) (omega arith) (rest_inside (suc set) (without_lowest (suc set)) n refl h))
+    ∙ sym (ones_next (suc set) (omega arith))
+
+pub size_ones : (n set : ℕ) → Inside set n → size_below n set ≡ ones set
+size_ones n set h = ones_left set n set (omega arith) h

@@ -1,2 +1,3 @@
 -- Words for sets of positions that the contracts of several crates cite.
 pub mod Bits
+pub mod Members

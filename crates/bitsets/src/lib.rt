@@ -1,4 +1,5 @@
-// Sets of positions, a bit a position: the operations on words that hold them. A position is that of a row of T.
+// Sets of positions, a bit a position: the operations on words that hold them. A position is that of a row of T. A set is a word without a bound
+// of its own: which rows it may hold differs from call to call.
 #![tactic(auto)]
 
 ghost use Rattle.std.specs.Prelude.{◌≡◌, ℕ, ◌<◌};
@@ -6,11 +7,15 @@ ghost use Rattle.bitsets.specs.Bits.{has, both, either, is_sub, but_not, with_ro
 
 use std::cmp::Ordering;
 
+mod members;
+
+pub use members::Members;
+
 // The positions that a word holds.
-pub const WORD_BITS: usize = 64;
+pub const WORD_BITS: usize = u64::BITS as usize;
 
 // The word that holds every position.
-pub const ALL_ROWS: u64 = 18446744073709551615;
+pub const ALL_ROWS: u64 = u64::MAX;
 
 // Is row k in the set?
 pub fn has_row(set: u64, k: usize) -> bool
@@ -84,16 +89,11 @@ pub fn without_lowest(set: u64) -> u64
 pub fn size(set: u64) -> usize
     ensures { (n : ℕ) → Inside set n → result ≡ size_below n set }
 {
-    let mut rest = set;
-    let mut count = 0;
-    while rest != 0 {
-        rest = without_lowest(rest);
-        count += 1;
-    }
-    count
+    set.count_ones() as usize
 }
 
-// Set order, by the smallest row that only one of them holds.
+// Set order, by the smallest row that only one of them holds. `cmp` of both by `reverse_bits` is one line, but hides that, and reverses two
+// words a comparison.
 pub fn compare(a: u64, b: u64) -> Ordering
     ensures { result ≡ compare_bits a b }
 {

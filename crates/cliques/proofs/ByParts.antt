@@ -7,7 +7,8 @@ use Prim.Native.Nat.{ℕ, ◌≤◌}
 use native.Mathlib.Omega.{arith}
 use lib.Dec.{eqb}
 use borrow.Author.Tests.{eqb-true, eqb-false}
-use Rattle.definitions.proofs.Bools.{bool_cases, clash, not_so}
+use Rattle.std.proofs.lemmas.Bool.{false_from_ne_true}
+use Rattle.definitions.proofs.Bools.{bool_cases, clash}
 use Rattle.bitsets.specs.Bits.{has, but_not, either, Inside, Sub, size_below}
 use Rattle.bitsets.proofs.Bits.{In, some, has_none, same_set, but_in, but_l, but_out, either_l, either_r, either_cases}
 use Rattle.cliques.specs.Maximal.{Max, Adds}
@@ -137,7 +138,7 @@ module _ (N : ℕ → ℕ) (n : ℕ) (g : Simple (adjacent_by N) n) where
         (λ t. inl (record { inside = stays x m k.0 k.1 t; clique = m.clique; full = λ j h adjacent. m.full j (p.within j h) adjacent }))
         (λ t. inr (
           record {
-            inside = λ j h. but_in rows part j (m.inside j h) (not_so (has part j) (λ q. clash (stays x m j h q k.0 k.1) t));
+            inside = λ j h. but_in rows part j (m.inside j h) (false_from_ne_true (has part j) (λ q. clash (stays x m j h q k.0 k.1) t));
             clique = m.clique;
             full = λ j h adjacent. m.full j (but_l rows part j h) adjacent;
           },

@@ -3,7 +3,8 @@ use mathlib.Core.Path.{◌≡◌, refl, sym, ap, ◌∙◌, subst}
 use mathlib.Core.Logic.{◌⊎◌, inl, inr, ⊎_elim}
 use mathlib.Core.Bool.{true, false}
 use Prim.Native.Nat.{ℕ, ◌<◌}
-use Rattle.definitions.proofs.Bools.{bool_cases, clash, not_so}
+use Rattle.std.proofs.lemmas.Bool.{false_from_ne_true}
+use Rattle.definitions.proofs.Bools.{bool_cases, clash}
 use Rattle.bitsets.specs.Bits.{has, both, either, but_not, is_sub, with_row, lowest, Inside, Sub}
 use Rattle.bitsets.proofs.Bits.{In, has_none, has_with_self, has_with_old, has_with_cases, both_in_lem, both_r, either_l, either_r, but_in, but_l, but_out, at_lowest, lowest_inside, sub_true, sub_less}
 use Rattle.cliques.specs.Search.{adjacent_by}
@@ -82,9 +83,9 @@ module _ (N : ℕ → ℕ) (rows : ℕ) where
       grow_less wider ew =
           rw ew (sub_less (but_not rows (with_row part row)) (but_not rows part) row
           (λ k h. but_in rows part k (but_l rows (with_row part row) k h)
-          (not_so (has part k) (λ p. clash (has_with_old part row k p) (but_out rows (with_row part row) k h))))
+          (false_from_ne_true (has part k) (λ p. clash (has_with_old part row k p) (but_out rows (with_row part row) k h))))
           (but_in rows part row (g.among row there) (g.apart row there))
-          (not_so (has (but_not rows (with_row part row)) row) (λ h. clash (has_with_self part row) (but_out rows (with_row part row) row h))))
+          (false_from_ne_true (has (but_not rows (with_row part row)) row) (λ h. clash (has_with_self part row) (but_out rows (with_row part row) row h))))
 
 -- ---- the rows that complement all others
 

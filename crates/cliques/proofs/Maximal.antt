@@ -8,7 +8,8 @@ use native.Mathlib.Decide.{le_ind}
 use native.Mathlib.Omega.{arith}
 use lib.Dec.{eqb}
 use borrow.Author.Tests.{eqb-true, eqb-false}
-use Rattle.definitions.proofs.Bools.{bool_cases, clash, not_so, and_l, and_r, and_i}
+use Rattle.std.proofs.lemmas.Bool.{and_from, and_parts, false_from_ne_true}
+use Rattle.definitions.proofs.Bools.{bool_cases, clash}
 use Rattle.bitsets.specs.Bits.{has, is_sub, with_row, only_one, lowest, Inside, Sub}
 use Rattle.cliques.specs.Maximal.{AdjacentToAll, Clique, Max}
 use Rattle.cliques.specs.Search.{adjacent_by, kept, taken, MayTake}
@@ -55,12 +56,12 @@ module _ (N : ℕ → ℕ) (d : ℕ) where
   complete_cases set i k h f g =
       bool_cases (fits (complete set i) i)
       (λ e. has_with_cases (complete set i) i k (rw e at h) f
-      (λ p. g p (and_l (has d i) (is_sub (complete set i) (N i)) e) (and_r (has d i) (is_sub (complete set i) (N i)) e)))
+      (λ p. g p (and_parts (has d i) (is_sub (complete set i) (N i)) e).0 (and_parts (has d i) (is_sub (complete set i) (N i)) e).1))
       (λ e. f (rw e at h))
 
   complete_adds : (set i : ℕ) → In d i → is_sub (complete set i) (N i) ≡ true → In (complete set (suc i)) i
   unfolding complete
-  complete_adds set i p e = let t : fits (complete set i) i ≡ true = and_i p e in rw t (has_with_self (complete set i) i)
+  complete_adds set i p e = let t : fits (complete set i) i ≡ true = and_from _ _ p e in rw t (has_with_self (complete set i) i)
 
   -- what was added is a row of d, and below i
   complete_new : (set i k : ℕ) → In (complete set i) k → In set k ⊎ (In d k × (k < i))
@@ -167,7 +168,7 @@ module _ (N : ℕ → ℕ) (n : ℕ) (g : Simple (adjacent_by N) n) (d : ℕ) (i
         clique = m.clique;
         full = λ j r f. m.full j (has_with_old d i j r) f;
       };
-      step = left (not_so (is_sub next (N i)) (λ s. m.full i (has_with_self d i) (sub_true next (N i) s))) refl;
+      step = left (false_from_ne_true (is_sub next (N i)) (λ s. m.full i (has_with_self d i) (sub_true next (N i) s))) refl;
     }
 
     abbrev rest : ℕ
@@ -260,7 +261,7 @@ module _ (N : ℕ → ℕ) (n : ℕ) (g : Simple (adjacent_by N) n) (d : ℕ) (i
       let same : kept N set i ≡ set = sub_same set (N i) s in
       let to : taken N set i ≡ next = ap (λ (x : ℕ). with_row x i) same ∙ e in
       grew (own set next to) to (λ j p out adjacent before. m.full j p (λ k h. adjacent k (ap (λ (x : ℕ). has x k) same ∙ h)))
-  origin set next m (left s e) = stayed (not_so (has next i) (λ h. not_own i (m.inside i (ap (λ (x : ℕ). has x i) e ∙ h)) refl)) e
+  origin set next m (left s e) = stayed (false_from_ne_true (has next i) (λ h. not_own i (m.inside i (ap (λ (x : ℕ). has x i) e ∙ h)) refl)) e
   origin set next m (took s t e) = grew (own set next e) e t.first
 
   -- the members of what one set keeps are kept by the other

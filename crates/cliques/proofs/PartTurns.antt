@@ -5,7 +5,8 @@ use Prim.Native.Nat.{ℕ, ◌+◌, ◌-◌, ◌≤◌, ◌<◌}
 use native.Mathlib.Omega.{arith}
 use lib.ListN.{length, take, drop, length-append, length-map}
 use lib.Seq.{length-take-le, take-add, take_at, drop_at}
-use Rattle.definitions.proofs.Bools.{clash, not_so}
+use Rattle.std.proofs.lemmas.Bool.{false_from_ne_true}
+use Rattle.definitions.proofs.Bools.{clash}
 use Rattle.bitsets.specs.Bits.{has, but_not, either, Inside, Sub, size_below}
 use Rattle.bitsets.proofs.Bits.{has_none, but_l, but_out, sub_less}
 use Rattle.cliques.specs.Graph.{adjacent}
@@ -26,11 +27,14 @@ run_extends {l = l} (takes h s m a b) =
     let q = run_extends b in
     (p.0 ++ q.0, q.1 ∙ ap (λ (x : List ℕ). x ++ q.0) p.1 ∙ append_assoc l p.0 q.0)
 
--- ---- the search of a part
+-- a list of count sets grows to one of found sets
+pub ran_grows : {N : ℕ → ℕ} {cap f d rest set : ℕ} (old list : List ℕ) (count found : ℕ) → count ≤ length old → found ≤ length list
+    → Ran N cap f d rest set (take count old) (take found list) → count ≤ found
+ran_grows old list count found first last run =
+    let p = run_extends run.1 in
+    omega (arith, ap length p.1, length-append (take count old) p.0, length-take-le count old first, length-take-le found list last)
 
--- some of the rows
-pub part_rows : {width : ℕ} {neighbours : List ℕ} {rows : ℕ} → RowsOf width neighbours rows → (part : ℕ) → Sub part rows → RowsOf width neighbours part
-part_rows r part s = record { n = r.n; graph = r.graph; bits = r.bits; inside = λ k h. r.inside k (s k h) }
+-- ---- the search of a part
 
 module _ (cap : ℕ) {width : ℕ} {neighbours : List ℕ} {part : ℕ} (r : RowsOf width neighbours part) where
   module _ (common core : ℕ) (c : Common (adjacent neighbours) part common) (e : core ≡ but_not part common) where
@@ -40,9 +44,9 @@ module _ (cap : ℕ) {width : ℕ} {neighbours : List ℕ} {part : ℕ} (r : Row
     core_bits : Inside core width
     core_bits k h = omega (arith, core_inside k h, r.bits)
 
-    pub part_ready : (size : ℕ) → ((m : ℕ) → Inside core m → size ≡ size_below m core) → (list : List ℕ) (count : ℕ) → cap ≤ length list → count ≤ cap
-        → Ready width cap neighbours 0 core size 0 list count
-    part_ready size es list count room few = record {
+    pub part_ready : (size : ℕ) → ((m : ℕ) → Inside core m → size ≡ size_below m core) → (count : ℕ) → count ≤ cap
+        → Ready width cap neighbours 0 core size 0 count
+    part_ready size es count few = record {
       n = r.n;
       graph = r.graph;
       split = record {
@@ -53,7 +57,6 @@ module _ (cap : ℕ) {width : ℕ} {neighbours : List ℕ} {part : ℕ} (r : Row
         counted = sym (es width core_bits);
       };
       maximal = none_max (row_of neighbours) r.n width (simple neighbours r.n r.graph);
-      room = room;
       few = few;
     }
 
@@ -69,16 +72,13 @@ module _ (cap : ℕ) {width : ℕ} {neighbours : List ℕ} {part : ℕ} (r : Row
       lengths : found ≡ count + length new
       lengths = sym (length-take-le found list last) ∙ ap length all ∙ length-append (take count old) new ∙ ap (λ (k : ℕ). k + length new) (length-take-le count old first)
 
-      pub part_grows : count ≤ found
-      part_grows = omega (arith, lengths)
-
       halves : take count list ++ take (found - count) (drop count list) ≡ take count old ++ new
       halves =
-          let sum : count + (found - count) ≡ found = omega (arith, part_grows) in
+          let sum : count + (found - count) ≡ found = omega (arith, lengths) in
           sym (take-add count (found - count) list) ∙ ap (λ (k : ℕ). take k list) sum ∙ all
 
       front : length (take count list) ≡ count
-      front = length-take-le count list (omega (arith, part_grows))
+      front = length-take-le count list (omega (arith, lengths, last))
 
       own : length (take count old) ≡ count
       own = length-take-le count old first
@@ -114,36 +114,32 @@ abbrev pub Continues : (ℕ → ℕ) → ℕ → ℕ → ℕ → ℕ → List �
 Continues N cap n rows rest l = (out : List ℕ) (more : ℕ) → Parts N cap n rest l out more → RanParts N cap n rows [] out
 
 -- how far the listing has come: the first count words of the list are the sets so far, and these rows are left
-pub record ListedParts (N : ℕ → ℕ) (cap n rows : ℕ) (found list : List ℕ) (rest count : ℕ) : Type 0 where
-  pub size : length list ≡ length found
+pub record ListedParts (N : ℕ → ℕ) (cap n rows : ℕ) (list : List ℕ) (rest count : ℕ) : Type 0 where
+  pub room : cap ≤ length list
   pub few : count ≤ cap
   pub within : Sub rest rows
   pub continues : Continues N cap n rows rest (take count list)
 
-module _ (N : ℕ → ℕ) (cap n rows : ℕ) where
-  pub continue_start : Continues N cap n rows rows []
-  continue_start out more p = (more, p)
+module _ (N : ℕ → ℕ) (cap n rows rest : ℕ) (l : List ℕ) (c : Continues N cap n rows rest l) where
+  pub continue_end : rest ≡ 0 → RanParts N cap n rows [] l
+  continue_end e = c l 0 (ends e)
 
-  module _ (rest : ℕ) (l : List ℕ) (c : Continues N cap n rows rest l) where
-    pub continue_end : rest ≡ 0 → RanParts N cap n rows [] l
-    continue_end e = c l 0 (ends e)
+  pub continue_full : cap ≤ length l → RanParts N cap n rows [] l
+  continue_full h = c l 0 (fills h)
 
-    pub continue_full : cap ≤ length l → RanParts N cap n rows [] l
-    continue_full h = c l 0 (fills h)
-
-    pub continue_part : length l < cap → (part left : ℕ) → Part (adjacent_by N) rest part → left ≡ but_not rest part → (out : List ℕ)
-        → Searched N cap n part l out → Continues N cap n rows left out
-    continue_part few part left p e out s end more q =
-        c end (s.calls + more)
-        (next s.common s.new few p s.rows s.run
-        (subst (λ (x : ℕ). Parts N cap n x (l ++ map (λ t. either t s.common) s.new) end more) e
-        (subst (λ (x : List ℕ). Parts N cap n left x end more) s.sets q)))
+  pub continue_part : length l < cap → (part left : ℕ) → Part (adjacent_by N) rest part → left ≡ but_not rest part → (out : List ℕ)
+      → Searched N cap n part l out → Continues N cap n rows left out
+  continue_part few part left p e out s end more q =
+      c end (s.calls + more)
+      (next s.common s.new few p s.rows s.run
+      (subst (λ (x : ℕ). Parts N cap n x (l ++ map (λ t. either t s.common) s.new) end more) e
+      (subst (λ (x : List ℕ). Parts N cap n left x end more) s.sets q)))
 
 -- fewer rows are left
 pub part_less : (adjacent : _) (rest part left : ℕ) → Part adjacent rest part → left ≡ but_not rest part → left < rest
 part_less adjacent rest part left p e =
     rw e (sub_less (but_not rest part) rest p.row (but_l rest part) (p.within p.row p.there)
-    (not_so (has (but_not rest part) p.row) (λ h. clash p.there (but_out rest part p.row h))))
+    (false_from_ne_true (has (but_not rest part) p.row) (λ h. clash p.there (but_out rest part p.row h))))
 
 pub left_sub : (rest part left : ℕ) → left ≡ but_not rest part → Sub left rest
 left_sub rest part left e k q = but_l rest part k (rw e at q)

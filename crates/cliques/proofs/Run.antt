@@ -7,7 +7,8 @@ use Prim.Native.Nat.{ℕ, zero, suc, ◌-◌, ◌<◌}
 use native.Mathlib.Omega.{arith}
 use lib.Dec.{eqb}
 use borrow.Author.Tests.{eqb-true, eqb-false}
-use Rattle.definitions.proofs.Bools.{bool_cases, clash, not_so}
+use Rattle.std.proofs.lemmas.Bool.{false_from_ne_true}
+use Rattle.definitions.proofs.Bools.{bool_cases, clash}
 use Rattle.bitsets.specs.Bits.{has, is_sub, with_row, Inside, lowest, without_lowest, size_below}
 use Rattle.bitsets.proofs.Bits.{In, Lowest, at_lowest, has_none, has_ext, has_with_self, has_with_old, has_with_cases, same_set, rest_in, rest_of, rest_out}
 use Rattle.bitsets.proofs.Sizes.{size_none, size_next, size_zero}
@@ -48,7 +49,7 @@ module _ {n width d rest f : ℕ} (s : Split n width d rest f) where
       fits = s.fits;
       past = λ k h. has_with_cases d i k h (s.past k) (λ p. rw p split_row);
       ahead = λ k h. s.ahead k (rest_in rest k h);
-      apart = λ k h. not_so (has (with_row d i) k)
+      apart = λ k h. false_from_ne_true (has (with_row d i) k)
           (λ p. has_with_cases d i k p (λ q. clash q (s.apart k (rest_in rest k h)))
           (λ q. clash h (ap (has (without_lowest rest)) q ∙ rest_out rest i first)));
       counted = omega (arith, s.counted, size_next width rest (split_some some) ahead_bits);
@@ -188,7 +189,7 @@ module _ (N : ℕ → ℕ) (n width : ℕ) (g : Simple (adjacent_by N) n) where
   }
 
   none_only : (set : ℕ) → M 0 set → set ≡ 0
-  none_only set m = has_ext set 0 (λ k. not_so (has set k) (λ h. clash (m.inside k h) (has_none k)) ∙ sym (has_none k))
+  none_only set m = has_ext set 0 (λ k. false_from_ne_true (has set k) (λ h. clash (m.inside k h) (has_none k)) ∙ sym (has_none k))
 
   pub run_adds : (cap : ℕ) {f rows calls : ℕ} {l out : List ℕ} → Run N cap f 0 rows 0 l out calls → Split n width 0 rows f → Adds (M rows) cap l out
   run_adds cap {f} {rows} a s =

@@ -12,7 +12,8 @@ use Rattle.definitions.specs.ComplementUnion.{contains, maximal_sets}
 use Rattle.definitions.specs.Statements.{Member}
 use Rattle.definitions.specs.Claims.{Holds, Complementing, Maximal}
 use Rattle.definitions.proofs.Tabulate.{tabulate-length, tabulate_at, tabulate_pass}
-use Rattle.definitions.proofs.Bools.{bool_eq, bool_cases, clash, not_so, and_l, and_r, and_i}
+use Rattle.std.proofs.lemmas.Bool.{and_from, and_parts, false_from_ne_true}
+use Rattle.definitions.proofs.Bools.{bool_eq, bool_cases, clash}
 use Rattle.definitions.proofs.Lists.{member-map, below_true, below_false}
 use Rattle.definitions.proofs.Orders.{sets}
 use Rattle.definitions.proofs.Sets.{holds_within, marks_ext, listed_is, listed_rise}
@@ -40,15 +41,15 @@ module _ (adjacent : ℕ → ℕ → Bool) (n : ℕ) (symmetric : (j k : ℕ) �
     row_in : (s : List Bool) (j : ℕ) → j < m → Holds s j → Holds (rows s) (row j)
     row_in s j h k =
         tabulate_at n (is_row s) (row j) (within j h)
-        ∙ ap not (not_so (all_below m (λ i. not (contains s i && eqb (row i) (row j))))
-        (λ t. clash (below_true (λ i. not (contains s i && eqb (row i) (row j))) m t j h) (ap not (and_i k (eq-eqb (row j) (row j) refl)))))
+        ∙ ap not (false_from_ne_true (all_below m (λ i. not (contains s i && eqb (row i) (row j))))
+        (λ t. clash (below_true (λ i. not (contains s i && eqb (row i) (row j))) m t j h) (ap not (and_from _ _ k (eq-eqb (row j) (row j) refl)))))
 
     row_of : (s : List Bool) (p : ℕ) → Holds (rows s) p → (j : ℕ) × Holds s j × (row j ≡ p)
     row_of s p h =
         let k = below_false (λ j. not (contains s j && eqb (row j) p)) m
         (not-true (all_below m (λ j. not (contains s j && eqb (row j) p))) (tabulate_pass n (is_row s) p h)) in
         let both = not-false (contains s k.0 && eqb (row k.0) p) k.2 in
-        (k.0, and_l (contains s k.0) (eqb (row k.0) p) both, eqb-true (row k.0) p (and_r (contains s k.0) (eqb (row k.0) p) both))
+        (k.0, (and_parts (contains s k.0) (eqb (row k.0) p) both).0, eqb-true (row k.0) p (and_parts (contains s k.0) (eqb (row k.0) p) both).1)
 
     module _ (s : List Bool) (max : Maximal kept m s) where
       below : (j : ℕ) → Holds s j → j < m

@@ -1,5 +1,5 @@
--- Laws of lists in which no element stands twice, and of ascending lists: mapped by a function that keeps the order, with one element more, and two lists of which one has all elements of
--- the other; over any elements and any order of them. Assumes nothing.
+-- Laws of lists in which no element stands twice, and of ascending lists: with one element more, and two lists of which one has all
+-- elements of the other; over any elements and any order of them. Assumes nothing.
 use mathlib.Core.Path.{◌≡◌, refl, sym, ap, ◌∙◌, subst}
 use mathlib.Core.Logic.{inl, inr, ⊎_elim}
 use mathlib.Core.List.{List, [], ◌∷◌, ◌++◌, map}
@@ -11,7 +11,7 @@ use Rattle.std.specs.declared.cmp.Ordering.TheVariants.{Less, Equal, Greater}
 use Rattle.definitions.specs.Ascending.{put, insert, ascending}
 use Rattle.definitions.specs.Statements.{Member, Orders, StrictlyAscending}
 use Rattle.definitions.proofs.Lists.{map-member}
-use Rattle.definitions.proofs.Ascending.{not_before_self, above_at, above_all, member_split, ascending_only}
+use Rattle.definitions.proofs.Ascending.{not_before_self, above_at, member_split, ascending_only}
 use Rattle.cliques.specs.Maximal.{Once}
 
 -- two lists that share no element, one after the other
@@ -31,17 +31,6 @@ once_map f (x ∷ l) g o = (
 )
 
 module _ {A : Type 0} {compare : A → A → Ordering} (laws : Orders compare) where
-  -- a function that keeps the order of the list's elements keeps the list ascending
-  pub strict_map : {B : Type 0} {compare₂ : B → B → Ordering} (laws₂ : Orders compare₂) (f : A → B) (l : List A)
-      → ((x y : A) → Member x l → Member y l → compare x y ≡ Less → compare₂ (f x) (f y) ≡ Less)
-      → StrictlyAscending compare l → StrictlyAscending compare₂ (map f l)
-  strict_map laws₂ f [] g h = h
-  strict_map laws₂ f (x ∷ l) g h = (
-    above_all laws₂ (f x) (map f l)
-        (λ z k. let m = map-member f z l k in rw m.2 (g x m.0 (inl refl) (inr m.1) (above_at laws x m.0 l h.0 m.1))),
-    strict_map laws₂ f l (λ y z p q. g y z (inr p) (inr q)) h.1,
-  )
-
   -- ---- the elements of a list and one more
 
   put_new : (r u : A) (t i : List A) (o : Ordering) → compare r u ≡ o → (r ≡ u → ⊥) → length i ≡ suc (length t) → length (put o r u t i) ≡ suc (suc (length t))

@@ -33,23 +33,23 @@ module _ (N : ℕ → ℕ) (cap d rest set count : ℕ) (list : List ℕ) (fits 
 -- ---- a row is
 
 -- the first of the undecided rows, those that are undecided later, and those that are decided then
-pub record Turn (width cap : ℕ) (neighbours : List ℕ) (decided rest undecided set : ℕ) (list : List ℕ) (count i later known : ℕ) : Type 0 where
-  pub ready : Ready width cap neighbours decided rest undecided set list count
+pub record Turn (width cap : ℕ) (neighbours : List ℕ) (decided rest undecided set count i later known : ℕ) : Type 0 where
+  pub ready : Ready width cap neighbours decided rest undecided set count
   pub some : undecided ≡ 0 → ⊥
   pub few : count < cap
   pub row : i ≡ lowest rest
   pub rows_later : later ≡ without_lowest rest
   pub rows_known : known ≡ with_row decided i
 
-pub turn_of : {width cap : ℕ} {neighbours : List ℕ} {decided rest undecided set : ℕ} {list : List ℕ} {count i later known : ℕ}
-    → Ready width cap neighbours decided rest undecided set list count → (undecided ≡ 0 → ⊥) → count < cap
+pub turn_of : {width cap : ℕ} {neighbours : List ℕ} {decided rest undecided set count i later known : ℕ}
+    → Ready width cap neighbours decided rest undecided set count → (undecided ≡ 0 → ⊥) → count < cap
     → i ≡ lowest rest → later ≡ without_lowest rest → known ≡ with_row decided i
-    → Turn width cap neighbours decided rest undecided set list count i later known
+    → Turn width cap neighbours decided rest undecided set count i later known
 turn_of ready some few row later known =
     record { ready = ready; some = some; few = few; row = row; rows_later = later; rows_known = known }
 
-module _ {width cap : ℕ} {neighbours : List ℕ} {decided rest undecided set : ℕ} {list : List ℕ} {count i later known : ℕ}
-    (t : Turn width cap neighbours decided rest undecided set list count i later known) where
+module _ {width cap : ℕ} {neighbours : List ℕ} {decided rest undecided set count i later known : ℕ}
+    (t : Turn width cap neighbours decided rest undecided set count i later known) where
   abbrev N : ℕ → ℕ
   N = row_of neighbours
 
@@ -69,36 +69,32 @@ module _ {width cap : ℕ} {neighbours : List ℕ} {decided rest undecided set :
   pub asked : Asked width neighbours decided set i
   asked = record { n = t.ready.n; graph = t.ready.graph; bits = s.fits; past = s.past; maximal = t.ready.maximal; row = row_below }
 
-  ready_step : (next : ℕ) → Step N decided i set next → (out : List ℕ) (found : ℕ) → length out ≡ length list → found ≤ cap
-      → Ready width cap neighbours known later (undecided - 1) next out found
-  ready_step next step out found size few = record {
+  ready_step : (next : ℕ) → Step N decided i set next → (found : ℕ) → found ≤ cap
+      → Ready width cap neighbours known later (undecided - 1) next found
+  ready_step next step found few = record {
     n = t.ready.n;
     graph = t.ready.graph;
     split = rw (t.rows_known, t.rows_later) (split_next s t.some i t.row);
     maximal = rw t.rows_known
         (step_max N t.ready.n (simple neighbours t.ready.n t.ready.graph) decided s.past i row_below
         (split_new s t.some i t.row) set next t.ready.maximal step);
-    room = omega (arith, t.ready.room);
     few = few;
   }
 
-  module _ (next : ℕ) (out : List ℕ) (found : ℕ) (size : length out ≡ length list) (few : found ≤ cap) where
-    pub ready_joins : is_sub set (N i) ≡ true → next ≡ with_row set i → Ready width cap neighbours known later (undecided - 1) next out found
-    ready_joins h e = ready_step next (joined h (sym e)) out found size few
+  module _ (next found : ℕ) (few : found ≤ cap) where
+    pub ready_joins : is_sub set (N i) ≡ true → next ≡ with_row set i → Ready width cap neighbours known later (undecided - 1) next found
+    ready_joins h e = ready_step next (joined h (sym e)) found few
 
-    pub ready_leaves : is_sub set (N i) ≡ false → next ≡ set → Ready width cap neighbours known later (undecided - 1) next out found
-    ready_leaves h e = ready_step next (left h (sym e)) out found size few
+    pub ready_leaves : is_sub set (N i) ≡ false → next ≡ set → Ready width cap neighbours known later (undecided - 1) next found
+    ready_leaves h e = ready_step next (left h (sym e)) found few
 
     pub ready_takes : is_sub set (N i) ≡ false → MayTake N decided set i → next ≡ taken N set i
-        → Ready width cap neighbours known later (undecided - 1) next out found
-    ready_takes h m e = ready_step next (took h m (sym e)) out found size few
+        → Ready width cap neighbours known later (undecided - 1) next found
+    ready_takes h m e = ready_step next (took h m (sym e)) found few
 
   -- the runs of the calls, told of the rows by their definitions
   abbrev To : ℕ → List ℕ → List ℕ → Type 0
   To next l out = Ran N cap (undecided - 1) known later next l out
-
-  abbrev own : List ℕ → Type 0
-  own out = Ran N cap undecided decided rest set (take count list) out
 
   to_run : (next : ℕ) (l out : List ℕ) (r : To next l out)
       → Run N cap (undecided - 1) (with_row decided (lowest rest)) (without_lowest rest) next l out r.0
@@ -106,28 +102,32 @@ module _ {width cap : ℕ} {neighbours : List ℕ} {decided rest undecided set :
       subst (λ (k : ℕ). Run N cap (undecided - 1) k (without_lowest rest) next l out r.0) (t.rows_known ∙ ap (with_row decided) t.row)
       (subst (λ (k : ℕ). Run N cap (undecided - 1) known k next l out r.0) t.rows_later r.1)
 
-  from_suc : {out : List ℕ} {calls : ℕ} → Run N cap (suc (undecided - 1)) decided rest set (take count list) out calls → own out
-  from_suc {out} {calls} r =
-      let e : suc (undecided - 1) ≡ undecided = omega (arith, t.some) in
-      (calls, subst (λ (f : ℕ). Run N cap f decided rest set (take count list) out calls) e r)
+  -- the list has room for the sets
+  module _ (list : List ℕ) (room : cap ≤ length list) (out : List ℕ) where
+    abbrev own : Type 0
+    own = Ran N cap undecided decided rest set (take count list) out
 
-  short : length (take count list) < cap
-  short = omega (arith, length-take-le count list (omega (arith, t.ready.room, t.few)), t.few)
+    from_suc : {calls : ℕ} → Run N cap (suc (undecided - 1)) decided rest set (take count list) out calls → own
+    from_suc {calls} r =
+        let e : suc (undecided - 1) ≡ undecided = omega (arith, t.some) in
+        (calls, subst (λ (f : ℕ). Run N cap f decided rest set (take count list) out calls) e r)
 
-  module _ (out : List ℕ) where
-    pub run_joins : is_sub set (N i) ≡ true → (next : ℕ) → next ≡ with_row set i → To next (take count list) out → own out
+    short : length (take count list) < cap
+    short = omega (arith, length-take-le count list (omega (arith, room, t.few)), t.few)
+
+    pub run_joins : is_sub set (N i) ≡ true → (next : ℕ) → next ≡ with_row set i → To next (take count list) out → own
     run_joins h next e r =
         from_suc (joins short (ap (λ (k : ℕ). is_sub set (N k)) (sym t.row) ∙ h)
         (subst (λ (x : ℕ). Run N cap (undecided - 1) (with_row decided (lowest rest)) (without_lowest rest) x (take count list) out r.0)
         (e ∙ ap (with_row set) t.row) (to_run next (take count list) out r)))
 
-    pub run_leaves : is_sub set (N i) ≡ false → (MayTake N decided set i → ⊥) → To set (take count list) out → own out
+    pub run_leaves : is_sub set (N i) ≡ false → (MayTake N decided set i → ⊥) → To set (take count list) out → own
     run_leaves h m r =
         from_suc (leaves short (ap (λ (k : ℕ). is_sub set (N k)) (sym t.row) ∙ h) (λ y. m (subst (MayTake N decided set) (sym t.row) y))
         (to_run set (take count list) out r))
 
     pub run_takes : is_sub set (N i) ≡ false → MayTake N decided set i → (next : ℕ) → next ≡ taken N set i → (mid : List ℕ)
-        → To next (take count list) mid → To set mid out → own out
+        → To next (take count list) mid → To set mid out → own
     run_takes h m next e mid a b =
         from_suc (takes short (ap (λ (k : ℕ). is_sub set (N k)) (sym t.row) ∙ h) (subst (MayTake N decided set) t.row m)
         (subst (λ (x : ℕ). Run N cap (undecided - 1) (with_row decided (lowest rest)) (without_lowest rest) x (take count list) mid a.0)

@@ -211,7 +211,7 @@ few_calls neighbours n g width bits list found all pos fits few ea l small =
     (subst (λ (x : ℕ). Parts (row_of neighbours) (suc max_sets) width x [] (take found list) l.0) ea l.1) (omega arith))
 
 -- calls are open inside each other while the count of undecided rows falls: with the last, which decides none, at most one more than there are rows
-pub most_open : {width cap : ℕ} {neighbours : List ℕ} {decided rest undecided set : ℕ} {list : List ℕ} {count : ℕ}
-    → Ready width cap neighbours decided rest undecided set list count → undecided ≤ width
+pub most_open : {width cap : ℕ} {neighbours : List ℕ} {decided rest undecided set count : ℕ}
+    → Ready width cap neighbours decided rest undecided set count → undecided ≤ width
 most_open {width} {rest = rest} r =
     omega (arith, r.split.counted, size_sub width rest (rows_below width) (λ k h. below_in width k (omega (arith, r.split.ahead k h, r.split.fits))), size_all width)

@@ -66,17 +66,15 @@ module _ (N : ℕ → ℕ) where
 abbrev pub Ran : (ℕ → ℕ) → ℕ → ℕ → ℕ → ℕ → ℕ → List ℕ → List ℕ → Type 0
 Ran N cap undecided decided rest set list out = (calls : ℕ) × Run N cap undecided decided rest set list out calls
 
--- The search may go on: the words are a graph of n rows, the set is maximal among the decided rows, and the list has
--- room for `cap` sets, of which no more are found yet.
-pub record Ready (width cap : ℕ) (neighbours : List ℕ) (decided rest undecided set : ℕ) (list : List ℕ) (count : ℕ) : Type 0 where
+-- The search may go on: the words are a graph of n rows, the set is maximal among the decided rows, and no more than `cap` sets are found yet.
+pub record Ready (width cap : ℕ) (neighbours : List ℕ) (decided rest undecided set count : ℕ) : Type 0 where
   pub n : ℕ
   pub graph : Graph neighbours n
   pub split : Split n width decided rest undecided
   pub maximal : Max (adjacent neighbours) decided set
-  pub room : cap ≤ length list
   pub few : count ≤ cap
 
--- the same without a list: row i is undecided, and may be taken or not
+-- the same without a count: row i is undecided, and may be taken or not
 pub record Asked (width : ℕ) (neighbours : List ℕ) (decided set i : ℕ) : Type 0 where
   pub n : ℕ
   pub graph : Graph neighbours n

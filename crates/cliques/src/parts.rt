@@ -1,14 +1,14 @@
 // The rows part by part: a maximal set lies in one connected part of the graph, and holds the rows that complement all others of the part.
-ghost use Rattle.std.specs.Prelude.{◌≡◌, [], map, suc, ◌≤◌, ◌<◌, length, take};
+ghost use Rattle.std.specs.Prelude.{◌≡◌, [], map, suc, ◌≤◌, ◌<◌, take};
 ghost use Rattle.definitions.specs.Limits.{max_sets};
 ghost use Rattle.bitsets.specs.Bits.{either, word_bits};
 ghost use Rattle.cliques.specs.Graph.{adjacent};
 ghost use Rattle.cliques.specs.Search.{row_of};
-ghost use Rattle.cliques.specs.Parts.{Part, Common, RowsOf, Searched, RanParts, changed};
+ghost use Rattle.cliques.specs.Parts.{Part, Common, RowsOf, Searched, RanParts};
 
 use crate::search::search;
-use bitsets::{is_sub, lowest_row, meet, minus, size, unite, with_row, without_lowest};
-use definitions::{MAX_SETS, MAX_UNION_ROWS};
+use bitsets::{Members, is_sub, lowest_row, meet, minus, size, unite, with_row};
+use definitions::MAX_SETS;
 
 // The connected part of the first of the rows: a row of it is put in, and the rows that complement it are put in later.
 fn part_of(neighbours: &[u64], rows: u64) -> u64
@@ -16,6 +16,7 @@ fn part_of(neighbours: &[u64], rows: u64) -> u64
     ensures { Part (adjacent neighbours.now) rows result }
 {
     let mut part = 0;
+    // No walk over `Members`: the rows that complement the row are put among those ahead, on the way.
     let mut ahead = with_row(0, lowest_row(rows));
     while ahead != 0 {
         let row = lowest_row(ahead);
@@ -31,10 +32,7 @@ fn common_rows(neighbours: &[u64], part: u64) -> u64
     ensures { Common (adjacent neighbours.now) part result }
 {
     let mut common = 0;
-    let mut rest = part;
-    while rest != 0 {
-        let row = lowest_row(rest);
-        rest = without_lowest(rest);
+    for row in Members::of(part) {
         if is_sub(part, with_row(neighbours[row], row)) {
             common = with_row(common, row);
         }
@@ -51,47 +49,31 @@ fn add_to_each(rows: u64, list: &mut [u64])
     }
 }
 
-// Puts rows into the sets from one index to another.
-fn add_rows(rows: u64, list: &mut [u64], from: usize, to: usize)
-    requires { (from ≤ to) × (to ≤ length list.old) }
-    ensures { list.new ≡ changed from to (λ s. either s rows) list.old }
-{
-    add_to_each(rows, &mut list[from..to]);
-}
-
-// Lists the maximal sets of a part after the first count sets, and gives the grown count. The rows that are in all of them are left out of the
+// Lists the maximal sets of a part after the first count sets, and gives the grown count, as `search` does. The rows that are in all of them are left out of the
 // search, and put into each set afterwards.
-fn list_part(
-    neighbours: &[u64; MAX_UNION_ROWS],
-    part: u64,
-    list: &mut [u64; MAX_SETS + 1],
-    count: usize,
-) -> usize
-    requires { RowsOf word_bits neighbours.now part × (count ≤ max_sets) × (suc max_sets ≤ length list.old) }
-    ensures { (result ≤ suc max_sets) × (length list.new ≡ length list.old)
+fn list_part(neighbours: &[u64], part: u64, list: &mut [u64; MAX_SETS + 1], count: usize) -> usize
+    requires { RowsOf word_bits neighbours.now part × (count ≤ max_sets) }
+    ensures { (result ≤ suc max_sets)
         × Searched (row_of neighbours.now) (suc max_sets) word_bits part
         (take count list.old) (take result list.new) }
 {
     let common = common_rows(neighbours, part);
     let core = minus(part, common);
     let found = search(neighbours, 0, core, size(core), 0, list, count);
-    add_rows(common, list, count, found);
+    add_to_each(common, &mut list[count..found]);
     found
 }
 
-// Lists the maximal sets of the rows as they are found, and gives their count: at most one more than MAX_SETS.
-pub(crate) fn list_parts(
-    neighbours: &[u64; MAX_UNION_ROWS],
-    rows: u64,
-    list: &mut [u64; MAX_SETS + 1],
-) -> usize
-    requires { RowsOf word_bits neighbours.now rows × (suc max_sets ≤ length list.old) }
-    ensures { (result ≤ suc max_sets) × (length list.new ≡ length list.old)
+// Lists the maximal sets of the rows as they are found; how many they are, at most one more than MAX_SETS.
+pub(crate) fn list_parts(neighbours: &[u64], rows: u64, list: &mut [u64; MAX_SETS + 1]) -> usize
+    requires { RowsOf word_bits neighbours.now rows }
+    ensures { (result ≤ suc max_sets)
         × RanParts (row_of neighbours.now) (suc max_sets) word_bits rows
         [] (take result list.new) }
 {
     let mut rest = rows;
     let mut count = 0;
+    // No walk over `Members`: a turn takes a whole part out of the rest.
     while rest != 0 {
         if MAX_SETS < count {
             return count;

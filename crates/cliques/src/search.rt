@@ -1,4 +1,5 @@
-// The search: row by row, from the maximal sets of the decided rows to those with one row more.
+// The search: row by row, from the maximal sets of the decided rows to those with one row more. The graph goes through it as the words of its
+// neighbours, and the sets of rows as words, so that a call keeps little on the stack.
 ghost use Rattle.std.specs.Prelude.{◌≡◌, suc, ◌+◌, ◌≤◌, ◌<◌, [], ◌∷◌, ◌++◌, length, take};
 ghost use Rattle.definitions.specs.Limits.{max_sets};
 ghost use Rattle.bitsets.specs.Bits.{Inside, word_bits};
@@ -6,19 +7,17 @@ ghost use Rattle.cliques.specs.Graph.{adjacent};
 ghost use Rattle.cliques.specs.Maximal.{Clique};
 ghost use Rattle.cliques.specs.Search.{row_of, taken, MayTake, Ran, Ready, Asked, FreeRows, GrowsBack, Decides};
 
-use bitsets::{has_row, is_sub, lowest_row, meet, with_row, without_lowest};
-use definitions::{MAX_SETS, MAX_UNION_ROWS};
+use bitsets::{Members, has_row, is_sub, lowest_row, meet, with_row, without_lowest};
+use definitions::MAX_SETS;
 
 // The rows of `start` that complement each row of the set.
 fn free_rows(neighbours: &[u64], set: u64, start: u64) -> u64
     requires { Inside set (length neighbours.now) }
     ensures { FreeRows (adjacent neighbours.now) set start result }
 {
-    let mut rest = set;
     let mut word = start;
-    while rest != 0 {
-        word = meet(word, neighbours[lowest_row(rest)]);
-        rest = without_lowest(rest);
+    for row in Members::of(set) {
+        word = meet(word, neighbours[row]);
     }
     word
 }
@@ -30,6 +29,7 @@ fn grows_back(neighbours: &[u64], free: u64, set: u64) -> bool
     ensures { GrowsBack (adjacent neighbours.now) free set result }
 {
     let mut rest = free;
+    // No walk over `Members`: a turn leaves of the rest the rows alone that complement the row.
     while rest != 0 {
         let row = lowest_row(rest);
         if !has_row(set, row) {
@@ -61,7 +61,7 @@ fn take_row(neighbours: &[u64], set: u64, i: usize) -> u64
     with_row(meet(set, neighbours[i]), i)
 }
 
-// Puts a set after the first count sets, and gives the grown count.
+// Puts a set after the first count sets, and gives the grown count, as `search` does.
 fn append(set: u64, list: &mut [u64], count: usize) -> usize
     requires { count < length list.old }
     ensures { (result ≡ count + 1)
@@ -73,8 +73,9 @@ fn append(set: u64, list: &mut [u64], count: usize) -> usize
 
 // The set is maximal among the decided rows, and `undecided` rows, the rest, are to be decided. Takes the first of them or leaves it, and lists
 // each maximal set of all these rows that grows out of the set, as it finds them. Gives the grown count: it stays once there is one set more than MAX_SETS.
+// The count beside the list, and the grown count as the answer, are the form that document 01 asks for ("returning the grown list count").
 pub(crate) fn search(
-    neighbours: &[u64; MAX_UNION_ROWS],
+    neighbours: &[u64],
     decided: u64,
     rest: u64,
     undecided: usize,
@@ -82,8 +83,8 @@ pub(crate) fn search(
     list: &mut [u64; MAX_SETS + 1],
     count: usize,
 ) -> usize
-    requires { Ready word_bits (suc max_sets) neighbours.now decided rest undecided set list.old count }
-    ensures { (result ≤ suc max_sets) × (length list.new ≡ length list.old)
+    requires { Ready word_bits (suc max_sets) neighbours.now decided rest undecided set count }
+    ensures { (result ≤ suc max_sets)
         × Ran (row_of neighbours.now) (suc max_sets) undecided decided rest set
         (take count list.old) (take result list.new) }
 {

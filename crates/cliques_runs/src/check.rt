@@ -6,19 +6,19 @@ ghost use Rattle.cliques_runs.specs.Mirrored.{Mirrored};
 
 use bitsets::has_row;
 
-// Does row j say of the n rows what they say of it, and does it not complement itself?
-fn is_mirrored(neighbours: &[u64], n: usize, j: usize) -> bool
-    requires { (j < n) × (n ≤ length neighbours.now) × (n ≤ word_bits) }
-    ensures { result ≡ true → Mirrored neighbours.now n j }
+// Does row j say of all rows what they say of it, and does it not complement itself?
+fn is_mirrored(neighbours: &[u64], j: usize) -> bool
+    requires { (j < length neighbours.now) × (length neighbours.now ≤ word_bits) }
+    ensures { result ≡ true → Mirrored neighbours.now (length neighbours.now) j }
 {
     !has_row(neighbours[j], j)
-        && (0..n).all(|k| has_row(neighbours[j], k) == has_row(neighbours[k], j))
+        && (0..neighbours.len()).all(|k| has_row(neighbours[j], k) == has_row(neighbours[k], j))
 }
 
-// Are the n rows a graph?
-pub(crate) fn is_graph(neighbours: &[u64], n: usize) -> bool
-    requires { (n ≤ length neighbours.now) × (n ≤ word_bits) }
-    ensures { result ≡ true → Graph neighbours.now n }
+// Are the rows a graph?
+pub(crate) fn is_graph(neighbours: &[u64]) -> bool
+    requires { length neighbours.now ≤ word_bits }
+    ensures { result ≡ true → Graph neighbours.now (length neighbours.now) }
 {
-    (0..n).all(|j| is_mirrored(neighbours, n, j))
+    (0..neighbours.len()).all(|j| is_mirrored(neighbours, j))
 }

@@ -1,10 +1,8 @@
 // The graphs that are searched.
-ghost use Rattle.std.specs.Prelude.{◌≤◌};
+ghost use Rattle.std.specs.Prelude.{◌≤◌, length};
 ghost use Rattle.bitsets.specs.Bits.{word_bits};
-ghost use Rattle.definitions.specs.Limits.{max_union_rows};
 
 use bitsets::with_row;
-use definitions::MAX_UNION_ROWS;
 
 // The rows below n that row j complements; of the row itself nothing is asked.
 fn word<F: Fn(usize, usize) -> bool>(n: usize, j: usize, complements: &F) -> u64
@@ -20,14 +18,13 @@ fn word<F: Fn(usize, usize) -> bool>(n: usize, j: usize, complements: &F) -> u64
     word
 }
 
-// The graph of n rows, of which two are joined where they complement each other.
-pub(crate) fn build<F: Fn(usize, usize) -> bool>(n: usize, complements: F) -> [u64; MAX_UNION_ROWS]
-    requires rows { n ≤ max_union_rows }
+// Writes the graph of as many rows as there are words, of which two are joined where they complement each other.
+pub(crate) fn fill<F: Fn(usize, usize) -> bool>(neighbours: &mut [u64], complements: F)
+    requires rows { length neighbours.old ≤ word_bits }
     requires call { F.IsAlwaysCallable complements }
 {
-    let mut neighbours = [0; MAX_UNION_ROWS];
-    for j in 0..n {
-        neighbours[j] = word(n, j, &complements);
+    let n = neighbours.len();
+    for (j, row) in neighbours.iter_mut().enumerate() {
+        *row = word(n, j, &complements);
     }
-    neighbours
 }

@@ -22,13 +22,16 @@ fn show<F: Fn(usize, usize) -> bool>(
     requires rows { n ≤ max_union_rows }
     requires call { F.IsAlwaysCallable complements }
 {
-    let neighbours = graph::build(n, complements);
+    let mut words = [0; MAX_UNION_ROWS];
+    let neighbours = &mut words[..n];
+    graph::fill(neighbours, complements);
     print!(rt; "{title}: ")?;
-    if !check::is_graph(&neighbours, n) {
+    if !check::is_graph(neighbours) {
         return println!(rt; "no graph");
     }
     let mut list = [0; MAX_SETS + 1];
-    let found = cliques::find_sets(&neighbours, n, &mut list);
+    let found = cliques::find_sets(neighbours, &mut list);
+    // More than may be listed are printed as one more.
     let count = found.unwrap_or(MAX_SETS + 1);
     println!(rt; "{count}")?;
     if count <= 4 {

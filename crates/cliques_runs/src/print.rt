@@ -1,13 +1,11 @@
 // Sets as lines of positions.
-use bitsets::{WORD_BITS, has_row};
+use bitsets::Members;
 use std::io;
 
 // The positions of a set.
 fn set(rt: &impl Print, set: u64) -> io::Result<()> {
-    for k in 0..WORD_BITS {
-        if has_row(set, k) {
-            print!(rt; " {k}")?;
-        }
+    for k in Members::of(set) {
+        print!(rt; " {k}")?;
     }
     println!(rt)
 }

@@ -34,24 +34,22 @@ fn complement(
     print::buffer(rt, &list, answer.map_or(0, |done| done.set_words))
 }
 
-// The same of tables that texts describe, behind the name of the case.
-fn texts(
-    rt: &(impl Print + AllocGlobal),
-    name: &str,
-    first: &str,
-    second: &str,
-    room: usize,
-    set_room: usize,
-) -> io::Result<()> {
-    let a = image::of_text(rt.alloc(), first)?;
-    let b = image::of_text(rt.alloc(), second)?;
-    print!(rt; "{name}")?;
-    complement(rt, &a, &b, room, set_room)
+// A case: its name, its two tables, and the words of the table buffer and of the set buffer.
+type Case = (&'static str, &'static str, &'static str, usize, usize);
+
+// Complement union of the tables of each case, behind its name.
+fn cases(rt: &(impl Print + AllocGlobal), cases: &[Case]) -> io::Result<()> {
+    for (name, first, second, room, set_room) in cases {
+        let (a, b) = image::pair(rt.alloc(), *first, *second)?;
+        print!(rt; "{name}")?;
+        complement(rt, &a, &b, *room, *set_room)?;
+    }
+    Ok(())
 }
 
 fn main(rt: HostRuntime) -> io::Result<()> {
-    paper::run(&rt)?;
-    room::run(&rt)?;
+    cases(&rt, &paper::CASES)?;
+    cases(&rt, &room::CASES)?;
     marks::run(&rt)?;
     many::run(&rt)
 }

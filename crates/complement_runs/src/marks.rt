@@ -1,8 +1,8 @@
 // Complement union of tables with marked columns.
-use crate::texts;
+use crate::cases;
 use std::io;
 
-// Each case: its name, and its two tables.
+// Each case: its name, and its two tables. All are lent the same room.
 const CASES: [(&str, &str, &str); 10] = [
     // The devices in column 10 have the guest in column 13, and so has the address in column 12; column 11 is empty.
     ("devices, no column marked", ":;=| 7-2 8-2", "<=| Y2"),
@@ -36,7 +36,7 @@ const CASES: [(&str, &str, &str); 10] = [
 
 pub(crate) fn run(rt: &(impl Print + AllocGlobal)) -> io::Result<()> {
     for (name, first, second) in CASES {
-        texts(rt, name, first, second, 20, 16)?;
+        cases(rt, &[(name, first, second, 20, 16)])?;
     }
     Ok(())
 }

@@ -1,9 +1,7 @@
 // Complement union of few rows, as one works them out on paper.
-use crate::texts;
-use std::io;
+use crate::Case;
 
-// Each case: its name, its two tables, and the words of the table buffer and of the set buffer.
-const CASES: [(&str, &str, &str, usize, usize); 6] = [
+pub(crate) const CASES: [Case; 6] = [
     ("complement of no rows", "12|", "23|", 8, 8),
     ("complement of one empty row", "12| --", "12|", 8, 8),
     (
@@ -29,10 +27,3 @@ const CASES: [(&str, &str, &str, usize, usize); 6] = [
     ),
     ("complement, number 0 joins", "123| 00- 0-1", "123|", 12, 8),
 ];
-
-pub(crate) fn run(rt: &(impl Print + AllocGlobal)) -> io::Result<()> {
-    for (name, first, second, room, set_room) in CASES {
-        texts(rt, name, first, second, room, set_room)?;
-    }
-    Ok(())
-}

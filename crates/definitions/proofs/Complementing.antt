@@ -10,7 +10,8 @@ use borrow.Author.Tests.{not-true}
 use Rattle.definitions.specs.MinimumUnion.{subsumes}
 use Rattle.definitions.specs.ComplementUnion.{same_row, agree, share, counted_cells, complement}
 use Rattle.definitions.specs.Claims.{CellAgrees, Complements}
-use Rattle.definitions.proofs.Bools.{bool_eq, clash, not_so, and_l, and_r, and_i}
+use Rattle.std.proofs.lemmas.Bool.{and_from, and_parts, false_from_ne_true}
+use Rattle.definitions.proofs.Bools.{bool_eq, clash}
 use Rattle.definitions.proofs.Rows.{agree_at, agree_of, same_is}
 use Rattle.definitions.proofs.Counted.{share_counted}
 
@@ -27,20 +28,20 @@ module _ (columns : List ℕ) where
       let c = not (subsumes t s) in
       let sharing = share (counted_cells columns s) (counted_cells columns t) in (
         λ e.
-            let p = and_l (agree s t && (a && b && c)) sharing e in
-            let q = and_r (agree s t) (a && b && c) p in
-            let r = and_l (a && b) c q in
+            let p = (and_parts (agree s t && (a && b && c)) sharing e).0 in
+            let q = (and_parts (agree s t) (a && b && c) p).1 in
+            let r = (and_parts (a && b) c q).0 in
             record {
-              agreeing = agree_at s t (and_l (agree s t) (a && b && c) p);
-              different = λ h. clash ((same_is s t).1 h) (not-true (same_row s t) (and_l a b r));
-              not_subsuming = not-true (subsumes s t) (and_r a b r);
-              not_subsumed = not-true (subsumes t s) (and_r (a && b) c q);
-              sharing = (share_counted columns s t).0 (and_r (agree s t && (a && b && c)) sharing e);
+              agreeing = agree_at s t (and_parts (agree s t) (a && b && c) p).0;
+              different = λ h. clash ((same_is s t).1 h) (not-true (same_row s t) (and_parts a b r).0);
+              not_subsuming = not-true (subsumes s t) (and_parts a b r).1;
+              not_subsumed = not-true (subsumes t s) (and_parts (a && b) c q).1;
+              sharing = (share_counted columns s t).0 (and_parts (agree s t && (a && b && c)) sharing e).1;
             },
         λ h.
-            let different : same_row s t ≡ false = not_so (same_row s t) (λ q. h.different ((same_is s t).0 q)) in
-            and_i
-            (and_i (agree_of s t h.agreeing) (and_i (and_i (ap not different) (ap not h.not_subsuming)) (ap not h.not_subsumed)))
+            let different : same_row s t ≡ false = false_from_ne_true (same_row s t) (λ q. h.different ((same_is s t).0 q)) in
+            and_from _ _
+            (and_from _ _ (agree_of s t h.agreeing) (and_from _ _ (and_from _ _ (ap not different) (ap not h.not_subsuming)) (ap not h.not_subsumed)))
             ((share_counted columns s t).1 h.sharing),
       )
 
@@ -62,7 +63,7 @@ module _ (columns : List ℕ) where
       (λ e. (complement_is s t).1 (complements_sym t s ((complement_is t s).0 e)))
 
   pub complement_self : (s : List ℕ) → complement columns s s ≡ false
-  complement_self s = not_so (complement columns s s) (λ e. ((complement_is s s).0 e).different refl)
+  complement_self s = false_from_ne_true (complement columns s s) (λ e. ((complement_is s s).0 e).different refl)
 
   pub complement_apart : (s t : List ℕ) → complement columns s t ≡ true → (s ≡ t → ⊥) × (subsumes s t ≡ false) × (subsumes t s ≡ false)
   complement_apart s t e = let c = (complement_is s t).0 e in (c.different, c.not_subsuming, c.not_subsumed)

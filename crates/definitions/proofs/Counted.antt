@@ -11,7 +11,8 @@ use Rattle.definitions.specs.Lists.{any}
 use Rattle.definitions.specs.Word.{mark_of}
 use Rattle.definitions.specs.ComplementUnion.{agree, share, marked_cells, counted_cells}
 use Rattle.definitions.specs.Claims.{Filled, CellAgrees, Counts, counts_column, SharedCounted}
-use Rattle.definitions.proofs.Bools.{bool_cases, or_cases, or_l, or_r, or_none}
+use Rattle.std.proofs.lemmas.Bool.{or_cases, or_left, or_right}
+use Rattle.definitions.proofs.Bools.{bool_cases, or_none}
 use Rattle.definitions.proofs.Rows.{agree_at, agree_of, share_is}
 
 pub counts_is : (columns : List ℕ) (k : ℕ) → (counts_column columns k ≡ true) ↔ Counts columns k
@@ -19,7 +20,7 @@ counts_is columns k =
     let mark = mark_of (get_or columns k 0) in
     let some = any mark_of columns in (
       λ e. ⊎_elim (λ q. inl q) (λ q. inr (not-true some q)) (or_cases mark (not some) e),
-      λ c. ⊎_elim (λ q. or_l mark (not some) q) (λ q. or_r mark (not some) (ap not q)) c,
+      λ c. ⊎_elim (λ q. or_left mark (not some) q) (λ q. or_right mark (not some) (ap not q)) c,
     )
 
 -- ---- the cells that count
@@ -49,7 +50,7 @@ module _ (columns : List ℕ) where
       let mark = mark_of (get_or columns k 0) in
       bool_cases (any mark_of columns)
       (λ e. rw e (marked_at columns row k ∙ ap (λ (b : Bool). cond b (get_or row k 0) 0) (sym (or_none mark false refl))))
-      (λ e. rw e (ap (λ (b : Bool). cond b (get_or row k 0) 0) (sym (or_r mark true refl))))
+      (λ e. rw e (ap (λ (b : Bool). cond b (get_or row k 0) 0) (sym (or_right mark true refl))))
 
   pub counted_length : (row : List ℕ) → length row ≤ length columns → length (counted_cells columns row) ≡ length row
   unfolding counted_cells

@@ -12,15 +12,16 @@ use lib.ListN.{length, get_or, take, drop}
 use borrow.Author.Tests.{eqb-true, eq-eqb}
 use Rattle.definitions.specs.Limits.{max_columns, max_rows, max_stored_rows}
 use Rattle.definitions.specs.Lists.{all, find_index, distinct}
-use Rattle.definitions.specs.Word.{kind_of, header_spare, header_word, id_of, mark_of, column_spare, column_word, is_filled, is_cell}
-use Rattle.definitions.specs.Image.{column_count, row_count, is_header, is_column, image_ids, cell_words, rows_in, image_of}
+use Rattle.definitions.specs.Word.{kind_of, id_of, mark_of, column_spare, column_word, is_filled, is_cell}
+use Rattle.definitions.specs.Image.{column_count, row_count, is_column, image_ids, cell_words, rows_in, image_of}
 use Rattle.definitions.specs.OuterUnion.{union_ids, union_columns, cell_in, widened, union_rows}
 use Rattle.definitions.specs.ComplementUnion.{members, join, join_all, joined, fused_rows}
 use Rattle.definitions.specs.Calls.{Accepted, fused_image}
 use Rattle.definitions.specs.Promise.{PagePromise, FusedHasPages}
 use Rattle.definitions.specs.Statements.{Member}
 use Rattle.definitions.specs.Claims.{Passed, ComplementDone, WidenedOf}
-use Rattle.definitions.proofs.Bools.{bool_cases, and_l, and_r, and_i}
+use Rattle.std.proofs.lemmas.Bool.{and_from, and_parts}
+use Rattle.definitions.proofs.Bools.{bool_cases}
 use Rattle.definitions.proofs.Orders.{words}
 use Rattle.definitions.proofs.Lists.{member-get, member_at, map-member, all_of, all_split, all-flatten, all-get, distinct-strict}
 use Rattle.definitions.proofs.Joined.{members_are}
@@ -31,7 +32,7 @@ use Rattle.definitions.proofs.Outcomes.{complement_done}
 use Rattle.definitions.proofs.Questions.{passed_is}
 use Rattle.definitions.proofs.Promise.{table_front}
 use Rattle.definitions.proofs.Pages.{some_page, page_written}
-use Rattle.definitions.proofs.Images.{header_columns, header_rows, image_columns, image_cells, passed_ids}
+use Rattle.definitions.proofs.Images.{header_columns, header_rows, header_is, image_columns, image_cells, passed_ids}
 
 -- ---- any table
 
@@ -44,9 +45,6 @@ pub record PassingTable (limit : ℕ) (columns : List ℕ) (rows : List (List �
   pub few_rows : length rows ≤ limit
   pub even : (r : List ℕ) → Member r rows → length r ≡ length columns
   pub all_cell_words : (r : List ℕ) → Member r rows → all is_cell r ≡ true
-
-header_right : (r c : ℕ) → r < 2 ^ 12 → c < 2 ^ 5 → is_header (header_word r c) ≡ true
-header_right r c h g = and_i (eq-eqb (kind_of (header_word r c)) 3 (omega arith)) (eq-eqb (header_spare (header_word r c)) 0 (omega arith))
 
 -- the limit is one that a header's 12 bits for the number of rows can hold
 pub image_passes : (limit : ℕ) (columns : List ℕ) (rows : List (List ℕ)) → limit < 2 ^ 12 → PassingTable limit columns rows
@@ -61,7 +59,7 @@ image_passes limit columns rows h t =
     let rs : row_count (image_of columns rows) ≡ r = header_rows r c short narrow in
     record {
       first_word = omega arith;
-      is_header_word = header_right r c short narrow;
+      is_header_word = header_is r c short narrow;
       some_column = rw cs t.some_column;
       few_columns = rw cs t.few_columns;
       few_rows = rw rs t.few_rows;
@@ -75,9 +73,9 @@ image_passes limit columns rows h t =
 
 word_column : (id : ℕ) (mark : Bool) → id < 2 ^ 16 → is_column (column_word id mark) ≡ true
 word_column id true h =
-    and_i (eq-eqb (kind_of (column_word id true)) 2 (omega arith)) (eq-eqb (column_spare (column_word id true)) 0 (omega arith))
+    and_from _ _ (eq-eqb (kind_of (column_word id true)) 2 (omega arith)) (eq-eqb (column_spare (column_word id true)) 0 (omega arith))
 word_column id false h =
-    and_i (eq-eqb (kind_of (column_word id false)) 2 (omega arith)) (eq-eqb (column_spare (column_word id false)) 0 (omega arith))
+    and_from _ _ (eq-eqb (kind_of (column_word id false)) 2 (omega arith)) (eq-eqb (column_spare (column_word id false)) 0 (omega arith))
 
 module _ (a b : List ℕ) where
   pub columns_right_lem : all is_column (union_columns a b) ≡ true
@@ -119,8 +117,8 @@ module _ (p : ℕ → Bool) where
   row_cells c zero l e r h = absurd h
   row_cells c (suc n) l e r h =
       let q = sym (all_split p c l) ∙ e in
-      ⊎_elim (λ k. ap (all p) k ∙ and_l (all p (take c l)) (all p (drop c l)) q)
-      (λ k. row_cells c n (drop c l) (and_r (all p (take c l)) (all p (drop c l)) q) r k) h
+      ⊎_elim (λ k. ap (all p) k ∙ (and_parts (all p (take c l)) (all p (drop c l)) q).0)
+      (λ k. row_cells c n (drop c l) (and_parts (all p (take c l)) (all p (drop c l)) q).1 r k) h
 
   -- a cell of a joined row is a cell of one of its rows
   join_cells : (s t : List ℕ) → all p s ≡ true → all p t ≡ true → all p (join s t) ≡ true
@@ -128,10 +126,10 @@ module _ (p : ℕ → Bool) where
   join_cells [] t e f = f
   join_cells (x ∷ s) [] e f = e
   join_cells (x ∷ s) (y ∷ t) e f =
-      let rest = join_cells s t (and_r (p x) (all p s) e) (and_r (p y) (all p t) f) in
+      let rest = join_cells s t (and_parts (p x) (all p s) e).1 (and_parts (p y) (all p t) f).1 in
       bool_cases (is_filled x)
-      (λ q. rw q (and_i (and_l (p x) (all p s) e) rest))
-      (λ q. rw q (and_i (and_l (p y) (all p t) f) rest))
+      (λ q. rw q (and_from _ _ (and_parts (p x) (all p s) e).0 rest))
+      (λ q. rw q (and_from _ _ (and_parts (p y) (all p t) f).0 rest))
 
   joined_cells : (rows : List (List ℕ)) → ((r : List ℕ) → Member r rows → all p r ≡ true) → (s : List Bool) → all p (joined rows s) ≡ true
   unfolding all join_all joined

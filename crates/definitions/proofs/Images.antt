@@ -1,6 +1,7 @@
 -- The image of a table reads back as that table; the rows of an image that passes the questions have a cell for each of its columns; and
 -- an accepted pair has at most 64 rows in T. Assumes nothing.
 use mathlib.Core.Path.{◌≡◌, refl, sym, ◌∙◌, ap, ap₂}
+use mathlib.Core.Bool.{true}
 use mathlib.Core.Logic.{inl, inr, ⊎_elim}
 use mathlib.Core.List.{List, [], ◌∷◌, ◌++◌, flatten, append-nil, append_assoc}
 use Prim.Native.Nat.{ℕ, zero, suc, ◌+◌, ◌*◌, ◌^◌, ◌<◌, ◌≤◌}
@@ -8,12 +9,14 @@ use native.Mathlib.Nat.{add_comm, suc-mul, zero-mul}
 use native.Mathlib.Omega.{arith}
 use lib.ListN.{length, take, drop, length-append, length-drop, length-map}
 use lib.Seq.{length-take-le, take-add, take_at, drop_at}
+use borrow.Author.Tests.{eq-eqb}
 use Rattle.definitions.specs.Limits.{max_rows, max_union_rows}
-use Rattle.definitions.specs.Word.{rows_of, columns_of, header_word, id_of}
-use Rattle.definitions.specs.Image.{column_count, row_count, column_words, image_ids, cell_words, rows_in, image_rows, image_of}
+use Rattle.definitions.specs.Word.{kind_of, rows_of, columns_of, header_spare, header_word, id_of}
+use Rattle.definitions.specs.Image.{column_count, row_count, is_header, column_words, image_ids, cell_words, rows_in, image_rows, image_of}
 use Rattle.definitions.specs.OuterUnion.{compare_row, union_ids, widened, widened_rows, union_rows}
 use Rattle.definitions.specs.Statements.{Member}
 use Rattle.definitions.specs.Claims.{Passed}
+use Rattle.std.proofs.lemmas.Bool.{and_from}
 use Rattle.definitions.proofs.Counts.{ascending-length}
 use Rattle.definitions.proofs.Questions.{passed_is}
 use Rattle.definitions.specs.Calls.{Accepted}
@@ -25,6 +28,9 @@ header_columns r c h = omega arith
 
 pub header_rows : (r c : ℕ) → r < 2 ^ 12 → c < 2 ^ 5 → rows_of (header_word r c) ≡ r
 header_rows r c h g = omega arith
+
+pub header_is : (r c : ℕ) → r < 2 ^ 12 → c < 2 ^ 5 → is_header (header_word r c) ≡ true
+header_is r c h g = and_from _ _ (eq-eqb (kind_of (header_word r c)) 3 (omega arith)) (eq-eqb (header_spare (header_word r c)) 0 (omega arith))
 
 -- the rows of a list that begins with rows joined
 pub rows_read : (c : ℕ) (rows : List (List ℕ)) (rest : List ℕ) → ((r : List ℕ) → Member r rows → length r ≡ c)

@@ -69,7 +69,7 @@ join_empty_is l k = (
 )
 
 -- two filled cells that agree are equal
-filled-agree : (x y : ℕ) → Filled x → Filled y → CellAgrees x y → x ≡ y
+pub filled-agree : (x y : ℕ) → Filled x → Filled y → CellAgrees x y → x ≡ y
 filled-agree x y h k a = ⊎_elim (λ e. e) (λ r. ⊎_elim (λ e. absurd (h e)) (λ e. absurd (k e)) r) a
 
 -- where the members agree pairwise, the joined row has each member's numbers

@@ -15,7 +15,7 @@ use Rattle.definitions.specs.Image.{header, column_count, is_header}
 use Rattle.definitions.specs.Questions.{has_header}
 use Rattle.definitions.specs.Reading.{set_count, positions_in, joined_position}
 use Rattle.definitions.specs.ReadBack.{is_set_list, are_mark_words, is_record}
-use Rattle.definitions.proofs.Bools.{and_l, and_r, and_i}
+use Rattle.std.proofs.lemmas.Bool.{and_from, and_parts}
 use Rattle.definitions.proofs.Lists.{all_true, all_of}
 
 -- check 12: the row count, the header and the length
@@ -46,25 +46,25 @@ module _ (m rows : ℕ) (list : List ℕ) where
 
       to : is_set_list m rows list ≡ true → WellFormed m rows list
       to e =
-          let first = and_l (few && head && sets) size e in
-          let start = and_l (few && head) sets first in
-          let titled = and_r few head start in
-          let has = and_l (has_header list) (eqb (column_count list) (suc m)) titled in
+          let first = (and_parts (few && head && sets) size e).0 in
+          let start = (and_parts (few && head) sets first).0 in
+          let titled = (and_parts few head start).1 in
+          let has = (and_parts (has_header list) (eqb (column_count list) (suc m)) titled).0 in
           record {
-            few_rows = leb-true rows max_union_rows (and_l few head start);
-            first_word = ltb-true 0 (length list) (and_l (ltb 0 (length list)) (is_header (header list)) has);
-            is_header_word = and_r (ltb 0 (length list)) (is_header (header list)) has;
-            width = eqb-true (column_count list) (suc m) (and_r (has_header list) (eqb (column_count list) (suc m)) titled);
-            few_sets = leb-true (set_count list) max_sets (and_r (few && head) sets first);
-            all_words = eqb-true (length list) (1 + suc m * set_count list) (and_r (few && head && sets) size e);
+            few_rows = leb-true rows max_union_rows (and_parts few head start).0;
+            first_word = ltb-true 0 (length list) (and_parts (ltb 0 (length list)) (is_header (header list)) has).0;
+            is_header_word = (and_parts (ltb 0 (length list)) (is_header (header list)) has).1;
+            width = eqb-true (column_count list) (suc m) (and_parts (has_header list) (eqb (column_count list) (suc m)) titled).1;
+            few_sets = leb-true (set_count list) max_sets (and_parts (few && head) sets first).1;
+            all_words = eqb-true (length list) (1 + suc m * set_count list) (and_parts (few && head && sets) size e).1;
           }
 
       from : WellFormed m rows list → is_set_list m rows list ≡ true
       from l =
-          and_i
-          (and_i
-          (and_i (le-leb rows max_union_rows l.few_rows)
-          (and_i (and_i (lt-ltb 0 (length list) l.first_word) l.is_header_word)
+          and_from _ _
+          (and_from _ _
+          (and_from _ _ (le-leb rows max_union_rows l.few_rows)
+          (and_from _ _ (and_from _ _ (lt-ltb 0 (length list) l.first_word) l.is_header_word)
           (eq-eqb (column_count list) (suc m) l.width)))
           (le-leb (set_count list) max_sets l.few_sets))
           (eq-eqb (length list) (1 + suc m * set_count list) l.all_words)
@@ -99,22 +99,22 @@ module _ (m rows : ℕ) (words : List ℕ) where
 
       to : is_record m rows words ≡ true → ValidRecord m rows words
       to e =
-          let first = and_l (marks && row && (some && known)) fits e in
-          let kinds = and_l (marks && row) (some && known) first in
-          let positions = and_r (marks && row) (some && known) first in
+          let first = (and_parts (marks && row && (some && known)) fits e).0 in
+          let kinds = (and_parts (marks && row) (some && known) first).0 in
+          let positions = (and_parts (marks && row) (some && known) first).1 in
           record {
-            mark_kinds = and_l marks row kinds;
-            row_kind = eqb-true (kind_of (get_or words m 0)) 1 (and_r marks row kinds);
-            some_position = ltb-true 0 (length (positions_in m words)) (and_l some known positions);
-            in_rows = and_r some known positions;
-            joined_row = ltb-true (joined_position m words) max_sets (and_r (marks && row && (some && known)) fits e);
+            mark_kinds = (and_parts marks row kinds).0;
+            row_kind = eqb-true (kind_of (get_or words m 0)) 1 (and_parts marks row kinds).1;
+            some_position = ltb-true 0 (length (positions_in m words)) (and_parts some known positions).0;
+            in_rows = (and_parts some known positions).1;
+            joined_row = ltb-true (joined_position m words) max_sets (and_parts (marks && row && (some && known)) fits e).1;
           }
 
       from : ValidRecord m rows words → is_record m rows words ≡ true
       from s =
-          and_i
-          (and_i (and_i s.mark_kinds (eq-eqb (kind_of (get_or words m 0)) 1 s.row_kind))
-          (and_i (lt-ltb 0 (length (positions_in m words)) s.some_position) s.in_rows))
+          and_from _ _
+          (and_from _ _ (and_from _ _ s.mark_kinds (eq-eqb (kind_of (get_or words m 0)) 1 s.row_kind))
+          (and_from _ _ (lt-ltb 0 (length (positions_in m words)) s.some_position) s.in_rows))
           (lt-ltb (joined_position m words) max_sets s.joined_row)
 
 -- ---- read with more rows than T has

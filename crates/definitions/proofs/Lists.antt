@@ -14,7 +14,8 @@ use Rattle.std.specs.declared.cmp.Ordering.{Ordering}
 use Rattle.std.specs.declared.cmp.Ordering.TheVariants.{Less}
 use Rattle.definitions.specs.Lists.{all, any, filter, find_index, distinct, all_below, sum_below}
 use Rattle.definitions.specs.Statements.{Member, Orders, BeforeAll, StrictlyAscending}
-use Rattle.definitions.proofs.Bools.{bool_cases, clash, not_so, and_l, and_r, and_i, or_cases, or_l, or_r}
+use Rattle.std.proofs.lemmas.Bool.{and_from, and_parts, false_from_ne_true, or_cases, or_left, or_right}
+use Rattle.definitions.proofs.Bools.{bool_cases, clash}
 use Rattle.definitions.proofs.Ascending.{not_before_self, above_at, strict-get}
 
 -- ---- elements and positions
@@ -44,11 +45,6 @@ module _ {A B : Type 0} where
   map_ext f g [] h = refl
   map_ext f g (x ∷ l) h = ap₂ (λ (b : B) (r : List B). b ∷ r) (h x (inl refl)) (map_ext f g l (λ y k. h y (inr k)))
 
-  pub map_at : (f : A → B) (d : A) (e : B) (l : List A) (k : ℕ) → k < length l → get_or (map f l) k e ≡ f (get_or l k d)
-  map_at f d e [] k h = absurd (not-suc-le-zero h)
-  map_at f d e (x ∷ l) zero h = refl
-  map_at f d e (x ∷ l) (suc k) h = map_at f d e l k (le_of_suc-le-suc h)
-
 -- ---- every element, some element
 
 module _ {A : Type 0} (p : A → Bool) where
@@ -56,12 +52,12 @@ module _ {A : Type 0} (p : A → Bool) where
   unfolding all
   all_true [] e x h = absurd h
   all_true (y ∷ l) e x h =
-      ⊎_elim (λ q. ap p q ∙ and_l (p y) (all p l) e) (λ r. all_true l (and_r (p y) (all p l) e) x r) h
+      ⊎_elim (λ q. ap p q ∙ (and_parts (p y) (all p l) e).0) (λ r. all_true l (and_parts (p y) (all p l) e).1 x r) h
 
   pub all_of : (l : List A) → ((x : A) → Member x l → p x ≡ true) → all p l ≡ true
   unfolding all
   all_of [] f = refl
-  all_of (y ∷ l) f = and_i (f y (inl refl)) (all_of l (λ x h. f x (inr h)))
+  all_of (y ∷ l) f = and_from _ _ (f y (inl refl)) (all_of l (λ x h. f x (inr h)))
 
   pub any_true : (l : List A) → any p l ≡ true → (x : A) × Member x l × (p x ≡ true)
   unfolding any
@@ -73,13 +69,13 @@ module _ {A : Type 0} (p : A → Bool) where
   unfolding any
   any_of x [] h e = absurd h
   any_of x (y ∷ l) h e =
-      ⊎_elim (λ q. or_l (p y) (any p l) (ap p (sym q) ∙ e)) (λ r. or_r (p y) (any p l) (any_of x l r e)) h
+      ⊎_elim (λ q. or_left (p y) (any p l) (ap p (sym q) ∙ e)) (λ r. or_right (p y) (any p l) (any_of x l r e)) h
 
   pub any_false : (l : List A) → any p l ≡ false → (x : A) → Member x l → p x ≡ false
-  any_false l e x h = not_so (p x) (λ q. clash (any_of x l h q) e)
+  any_false l e x h = false_from_ne_true (p x) (λ q. clash (any_of x l h q) e)
 
   pub any_none : (l : List A) → ((x : A) → Member x l → p x ≡ false) → any p l ≡ false
-  any_none l f = not_so (any p l) (λ q. let i = any_true l q in clash i.2 (f i.0 i.1))
+  any_none l f = false_from_ne_true (any p l) (λ q. let i = any_true l q in clash i.2 (f i.0 i.1))
 
   pub all_append : (l m : List A) → all p (l ++ m) ≡ (all p l && all p m)
   unfolding all
@@ -92,14 +88,14 @@ module _ {A : Type 0} (p : A → Bool) where
   pub all-flatten : (l : List (List A)) → ((r : List A) → Member r l → all p r ≡ true) → all p (flatten l) ≡ true
   unfolding all flatten
   all-flatten [] f = refl
-  all-flatten (r ∷ l) f = all_append r (flatten l) ∙ and_i (f r (inl refl)) (all-flatten l (λ s h. f s (inr h)))
+  all-flatten (r ∷ l) f = all_append r (flatten l) ∙ and_from _ _ (f r (inl refl)) (all-flatten l (λ s h. f s (inr h)))
 
   -- what is read at any index, where what stands past the end passes too
   pub all-get : (d : A) → p d ≡ true → (l : List A) → all p l ≡ true → (k : ℕ) → p (get_or l k d) ≡ true
   unfolding all
   all-get d e [] h k = e
-  all-get d e (x ∷ l) h zero = and_l (p x) (all p l) h
-  all-get d e (x ∷ l) h (suc k) = all-get d e l (and_r (p x) (all p l) h) k
+  all-get d e (x ∷ l) h zero = (and_parts (p x) (all p l) h).0
+  all-get d e (x ∷ l) h (suc k) = all-get d e l (and_parts (p x) (all p l) h).1 k
 
   pub any_append : (l m : List A) → any p (l ++ m) ≡ (any p l || any p m)
   unfolding any
@@ -190,11 +186,6 @@ module _ {A : Type 0} (p : A → Bool) where
 -- ---- the first index that passes
 
 module _ {A : Type 0} (p : A → Bool) where
-  pub find_index_within : (l : List A) → find_index p l ≤ length l
-  unfolding find_index
-  find_index_within [] = omega arith
-  find_index_within (x ∷ l) = let i = find_index_within l in bool_cases (p x) (λ e. rw e (omega arith)) (λ e. rw e (omega arith))
-
   pub find_index_found : (x : A) (l : List A) → Member x l → p x ≡ true → find_index p l < length l
   unfolding find_index
   find_index_found x [] h e = absurd h
@@ -220,15 +211,15 @@ module _ {A : Type 0} (p : A → Bool) where
   unfolding find_index any
   find_index_none [] e = refl
   find_index_none (x ∷ l) e =
-      bool_cases (p x) (λ q. absurd (clash (or_l (p x) (any p l) q) e))
-      (λ q. rw q (ap suc (find_index_none l (not_so (any p l) (λ r. clash (or_r (p x) (any p l) r) e)))))
+      bool_cases (p x) (λ q. absurd (clash (or_left (p x) (any p l) q) e))
+      (λ q. rw q (ap suc (find_index_none l (false_from_ne_true (any p l) (λ r. clash (or_right (p x) (any p l) r) e)))))
 
 -- of a strictly ascending list, each element has one index: its own
 pub find_index-strict : {A : Type 0} {compare : A → A → Ordering} (laws : Orders compare) (same : A → A → Bool) (is : (a b : A) → (same a b ≡ true) ↔ (a ≡ b))
     (d : A) (l : List A) (k : ℕ) → StrictlyAscending compare l → k < length l → find_index (same (get_or l k d)) l ≡ k
 find_index-strict {A} {compare} laws same is d l k strict h =
     find_index_of (same (get_or l k d)) d l k h ((is (get_or l k d) (get_or l k d)).1 refl)
-    (λ j i. not_so (same (get_or l k d) (get_or l j d)) (λ e.
+    (λ j i. false_from_ne_true (same (get_or l k d) (get_or l j d)) (λ e.
     not_before_self laws (get_or l j d)
     (subst (λ (x : A). compare (get_or l j d) x ≡ Less) ((is (get_or l k d) (get_or l j d)).0 e) (strict-get laws d l j k strict i h))))
 
@@ -240,9 +231,9 @@ module _ {A : Type 0} (same : A → A → Bool) (d : A) where
   distinct_true [] e i j h g = absurd (not-suc-le-zero g)
   distinct_true (x ∷ l) e i zero h g = absurd (not-suc-le-zero h)
   distinct_true (x ∷ l) e zero (suc j) h g =
-      any_false (same x) l (not-true (any (same x) l) (and_l (not (any (same x) l)) (distinct same l) e)) (get_or l j d) (member-get d l j (le_of_suc-le-suc g))
+      any_false (same x) l (not-true (any (same x) l) (and_parts (not (any (same x) l)) (distinct same l) e).0) (get_or l j d) (member-get d l j (le_of_suc-le-suc g))
   distinct_true (x ∷ l) e (suc i) (suc j) h g =
-      distinct_true l (and_r (not (any (same x) l)) (distinct same l) e) i j (le_of_suc-le-suc h) (le_of_suc-le-suc g)
+      distinct_true l (and_parts (not (any (same x) l)) (distinct same l) e).1 i j (le_of_suc-le-suc h) (le_of_suc-le-suc g)
 
 -- a strictly ascending list
 pub distinct-strict : {A : Type 0} {compare : A → A → Ordering} (laws : Orders compare) (same : A → A → Bool)
@@ -250,8 +241,8 @@ pub distinct-strict : {A : Type 0} {compare : A → A → Ordering} (laws : Orde
 unfolding distinct
 distinct-strict laws same is [] h = refl
 distinct-strict {A} {compare} laws same is (x ∷ l) h =
-    and_i
-    (ap not (any_none (same x) l (λ y k. not_so (same x y) (λ e.
+    and_from _ _
+    (ap not (any_none (same x) l (λ y k. false_from_ne_true (same x y) (λ e.
     not_before_self laws x (subst (λ (z : A). compare x z ≡ Less) (sym (is x y e)) (above_at laws x y l h.0 k))))))
     (distinct-strict laws same is l h.1)
 
@@ -266,12 +257,12 @@ module _ (p : ℕ → Bool) where
   unfolding all_below
   below_true zero e k h = absurd (not-suc-le-zero h)
   below_true (suc n) e k h =
-      below_cases k n h (λ i. below_true n (and_l (all_below n p) (p n) e) k i) (λ q. ap p q ∙ and_r (all_below n p) (p n) e)
+      below_cases k n h (λ i. below_true n (and_parts (all_below n p) (p n) e).0 k i) (λ q. ap p q ∙ (and_parts (all_below n p) (p n) e).1)
 
   pub below_of : (n : ℕ) → ((k : ℕ) → k < n → p k ≡ true) → all_below n p ≡ true
   unfolding all_below
   below_of zero f = refl
-  below_of (suc n) f = and_i (below_of n (λ k h. f k (omega arith))) (f n (omega arith))
+  below_of (suc n) f = and_from _ _ (below_of n (λ k h. f k (omega arith))) (f n (omega arith))
 
   pub below_false : (n : ℕ) → all_below n p ≡ false → (k : ℕ) × (k < n) × (p k ≡ false)
   unfolding all_below

@@ -11,21 +11,20 @@ use borrow.Author.Tests.{eq-eqb, lt-ltb}
 use Rattle.std.specs.declared.cmp.Ordering.TheVariants.{Less}
 use Rattle.definitions.specs.Limits.{mark_words, set_width, max_union_rows, max_sets, marks_per_word}
 use Rattle.definitions.specs.Lists.{all}
-use Rattle.definitions.specs.Word.{kind_of, word_of, header_spare, header_word}
-use Rattle.definitions.specs.Image.{is_header}
+use Rattle.definitions.specs.Word.{kind_of, word_of}
 use Rattle.definitions.specs.ComplementUnion.{compare_set, complement_at, union_sets}
 use Rattle.definitions.specs.SetList.{bits, marks_from, fused_position, record_of, set_record, list_of, set_list}
 use Rattle.definitions.specs.Reading.{set_count, records_in, set_in, positions_of, joined_position}
 use Rattle.definitions.specs.ReadBack.{entry_words, read_record, read_words, are_mark_words, is_record, made_entry, made_words}
 use Rattle.definitions.specs.Statements.{Member, StrictlyAscending}
 use Rattle.definitions.specs.Claims.{AcceptedList}
-use Rattle.definitions.proofs.Bools.{and_i}
+use Rattle.std.proofs.lemmas.Bool.{and_from}
 use Rattle.definitions.proofs.Ascending.{strict_image}
 use Rattle.definitions.proofs.Orders.{set_behind}
 use Rattle.definitions.proofs.Lists.{all_of, map-member, map_ext}
 use Rattle.definitions.proofs.Sets.{listed_is, listed_rise}
 use Rattle.definitions.proofs.Counts.{marks-length, set_list-length}
-use Rattle.definitions.proofs.Images.{header_columns}
+use Rattle.definitions.proofs.Images.{header_columns, header_is}
 use Rattle.definitions.proofs.SetWords.{row_word}
 use Rattle.definitions.proofs.Reading.{set_wide, positions_read, position_read}
 use Rattle.definitions.proofs.Reading.{count_read, all_read, listed_length, listed_position}
@@ -38,13 +37,7 @@ unfolding marks_from all
 mark_kinds zero set = refl
 mark_kinds (suc n) set =
     let kind : kind_of (word_of 2 (set % 2 ^ 30)) ≡ 2 = omega arith in
-    and_i (eq-eqb (kind_of (word_of 2 (set % 2 ^ 30))) 2 kind) (mark_kinds n (set / 2 ^ 30))
-
-header_is : (r c : ℕ) → r < 2 ^ 12 → c < 2 ^ 5 → is_header (header_word r c) ≡ true
-header_is r c h g =
-    let kind : kind_of (header_word r c) ≡ 3 = omega arith in
-    let spare : header_spare (header_word r c) ≡ 0 = omega arith in
-    and_i (eq-eqb (kind_of (header_word r c)) 3 kind) (eq-eqb (header_spare (header_word r c)) 0 spare)
+    and_from _ _ (eq-eqb (kind_of (word_of 2 (set % 2 ^ 30))) 2 kind) (mark_kinds n (set / 2 ^ 30))
 
 module _ (columns : List ℕ) (t : List (List ℕ)) (few : length (union_sets columns t) ≤ max_sets) (rows : length t ≤ max_union_rows) where
   pub made_count : set_count (set_list columns t) ≡ length (union_sets columns t)

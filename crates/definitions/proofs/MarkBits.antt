@@ -17,7 +17,8 @@ use Rattle.definitions.specs.SetList.{bits, marks_from}
 use Rattle.definitions.specs.ReadBack.{are_mark_words}
 use Rattle.definitions.specs.Reading.{mark_at, marks_in, set_in}
 use Rattle.definitions.proofs.Tabulate.{tabulate_ext}
-use Rattle.definitions.proofs.Bools.{bool_cases, and_l, and_r}
+use Rattle.std.proofs.lemmas.Bool.{and_parts}
+use Rattle.definitions.proofs.Bools.{bool_cases}
 use Rattle.definitions.proofs.Reading.{marks_count}
 use Rattle.definitions.proofs.Marks.{word_set, set_cons}
 
@@ -73,8 +74,8 @@ marks_again zero words h e = refl
 marks_again (suc m) [] h e = absurd (not-suc-le-zero h)
 marks_again (suc m) (w ∷ words) h e =
     let kinds = are_mark_words (take m words) in
-    let kind : kind_of w ≡ 2 = eqb-true (kind_of w) 2 (and_l (eqb (kind_of w) 2) kinds e) in
-    let rest = marks_again m words (le_of_suc-le-suc h) (and_r (eqb (kind_of w) 2) kinds e) in
+    let kind : kind_of w ≡ 2 = eqb-true (kind_of w) 2 (and_parts (eqb (kind_of w) 2) kinds e).0 in
+    let rest = marks_again m words (le_of_suc-le-suc h) (and_parts (eqb (kind_of w) 2) kinds e).1 in
     let number : bits (set_in (suc m) (w ∷ words)) ≡ w % 2 ^ 30 + 2 ^ 30 * bits (set_in m words) =
     ap bits (set_cons m w words) ∙ bits-append (word_set w) (set_in m words)
     ∙ ap₂ (λ (x k : ℕ). x + 2 ^ k * bits (set_in m words)) (word_number w) (marks_count (marks_per_word * 1) (w ∷ [])) in

@@ -12,7 +12,8 @@ use Rattle.definitions.specs.OuterUnion.{compare_row}
 use Rattle.definitions.specs.MinimumUnion.{filled, subsumes, minimum_rows}
 use Rattle.definitions.specs.Statements.{Member, StrictlyAscending}
 use Rattle.definitions.specs.Claims.{Stayer}
-use Rattle.definitions.proofs.Bools.{bool_cases, not_so}
+use Rattle.std.proofs.lemmas.Bool.{false_from_ne_true}
+use Rattle.definitions.proofs.Bools.{bool_cases}
 use Rattle.definitions.proofs.Lists.{member_filter, filter-member, strict-filter, any_true, any_false, any_none}
 use Rattle.definitions.proofs.Subsumption.{subsumes_is, subsumes_trans}
 
@@ -49,7 +50,7 @@ module _ (rows : List (List ℕ)) where
   climb : (left : ℕ) (t : List ℕ) → Member t rows → total rows ≤ filled t + left → Stayer rows t
   climb zero t h b = (
     t,
-    (minimum_is rows t).1 (h, λ s g. not_so (subsumes s t) (λ e. let p = ((subsumes_is s t).0 e).0 in let q = filled_total rows s g in absurd (omega arith))),
+    (minimum_is rows t).1 (h, λ s g. false_from_ne_true (subsumes s t) (λ e. let p = ((subsumes_is s t).0 e).0 in let q = filled_total rows s g in absurd (omega arith))),
     inl refl,
   )
   climb (suc left) t h b =

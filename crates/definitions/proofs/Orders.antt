@@ -12,12 +12,10 @@ use Rattle.std.specs.declared.cmp.Ordering.TheVariants.{Less, Equal, Greater}
 use Rattle.definitions.specs.OuterUnion.{compare_word, then_by, compare_row}
 use Rattle.definitions.specs.ComplementUnion.{compare_set, subsets}
 use Rattle.definitions.specs.Statements.{Orders, BeforeAll, StrictlyAscending}
-use Rattle.definitions.proofs.Ascending.{above_append}
+use Rattle.definitions.proofs.Ascending.{above_append, above_image, strict_image}
+pub use Rattle.definitions.proofs.Ascending.{before≢same}
 
--- two different cases of an order
-pub before≢same : {A : Type 0} → Less ≡ Equal → A
-before≢same e = absurd (let z : ◌≡◌ {A = ℕ} 0 1 = cc in omega arith)
-
+-- two different cases of an order, beside that one
 pub before≢after : {A : Type 0} → Less ≡ Greater → A
 before≢after e = absurd (let z : ◌≡◌ {A = ℕ} 0 1 = cc in omega arith)
 
@@ -192,26 +190,23 @@ then_same Less = refl
 then_same Equal = refl
 then_same Greater = refl
 
-pub then_first : (o later : Ordering) → (o ≡ Equal → ⊥) → then_by o later ≡ o
-then_first Less later d = refl
-then_first Equal later d = absurd (d refl)
-then_first Greater later d = refl
-
 -- the same positions behind two sets leave their order
 pub set_behind : (s t rest : List Bool) → length s ≡ length t → compare_set (s ++ rest) (t ++ rest) ≡ compare_set s t
 set_behind s t rest e = set-append s t rest rest e ∙ ap (then_by (compare_set s t)) (set_self rest) ∙ then_same (compare_set s t)
 
 -- ---- all sets, in set order
 
-above_map : (m : Bool) (s : List Bool) (l : List (List Bool)) → BeforeAll compare_set s l → BeforeAll compare_set (m ∷ s) (map (λ t. m ∷ t) l)
+-- the same mark before two sets leaves their order
+set_before : (m : Bool) (s t : List Bool) → compare_set (m ∷ s) (m ∷ t) ≡ compare_set s t
 unfolding compare_set
-above_map m s [] h = tt
-above_map true s (t ∷ l) h = (h.0, above_map true s l h.1)
-above_map false s (t ∷ l) h = (h.0, above_map false s l h.1)
+set_before true s t = refl
+set_before false s t = refl
+
+above_map : (m : Bool) (s : List Bool) (l : List (List Bool)) → BeforeAll compare_set s l → BeforeAll compare_set (m ∷ s) (map (λ t. m ∷ t) l)
+above_map m s l h = above_image compare_set compare_set (λ t. m ∷ t) s l (λ t k e. set_before m s t ∙ e) h
 
 strict_map : (m : Bool) (l : List (List Bool)) → StrictlyAscending compare_set l → StrictlyAscending compare_set (map (λ t. m ∷ t) l)
-strict_map m [] h = tt
-strict_map m (s ∷ l) h = (above_map m s l h.0, strict_map m l h.1)
+strict_map m l h = strict_image compare_set compare_set (λ t. m ∷ t) l (λ s t j k e. set_before m s t ∙ e) h
 
 above_other : (s : List Bool) (l : List (List Bool)) → BeforeAll compare_set (true ∷ s) (map (λ t. false ∷ t) l)
 unfolding compare_set

@@ -9,13 +9,15 @@ use lib.Dec.{eqb, leb, ltb}
 use lib.ListN.{length, get_or, take, drop, length-append, length-drop, length-map, length-replicate, get_or-append}
 use lib.Seq.{take_at, drop-append-le, drop-append-add, take-append-le, get_or_at}
 use borrow.Author.Tests.{le-leb, leb-true, ltb-true, ltb-false, eqb-true, eqb-false}
+use Rattle.std.proofs.lemmas.List.{get_or-map}
 use Rattle.definitions.specs.Lists.{all}
 use Rattle.definitions.specs.Statements.{Member}
 use Rattle.definitions.specs.Text.{digits, decimal, cell_text}
 use Rattle.definitions.specs.Page.{line_width, position_width, cell_width, blanks, flush_right, line_text, page_line, band_columns}
 use Rattle.definitions.specs.PageClaims.{line_bytes}
-use Rattle.definitions.proofs.Bools.{bool_cases, and_i}
-use Rattle.definitions.proofs.Lists.{member-get, all_true, all_append, map-member, map_at}
+use Rattle.std.proofs.lemmas.Bool.{and_from}
+use Rattle.definitions.proofs.Bools.{bool_cases}
+use Rattle.definitions.proofs.Lists.{member-get, all_true, all_append, map-member}
 use Rattle.definitions.proofs.Counts.{flatten-length}
 use Rattle.definitions.proofs.Flat.{Wide, flat_row}
 use Rattle.definitions.proofs.Cells.{empty_text, number_text}
@@ -27,7 +29,7 @@ abbrev pub Characters : List ℕ → Type 0
 Characters text = all (leb 32) text ≡ true
 
 characters_append : (s t : List ℕ) → Characters s → Characters t → Characters (s ++ t)
-characters_append s t h k = all_append (leb 32) s t ∙ and_i h k
+characters_append s t h k = all_append (leb 32) s t ∙ and_from _ _ h k
 
 pub blanks-length : (n : ℕ) → length (blanks n) ≡ n
 blanks-length n = length-replicate {A = ℕ} n 32
@@ -39,7 +41,7 @@ blank_characters (suc n) = blank_characters n
 
 digit_characters : (n : ℕ) → Characters ((48 + n) ∷ [])
 unfolding all
-digit_characters n = and_i (le-leb 32 (48 + n) (omega arith)) refl
+digit_characters n = and_from _ _ (le-leb 32 (48 + n) (omega arith)) refl
 
 digits_characters : (steps n : ℕ) → Characters (digits steps n)
 unfolding digits
@@ -124,9 +126,6 @@ characters_line text size h = record {
 abbrev pub line_end : ℕ → List ℕ
 line_end used = blanks (line_width - used) ++ (10 ∷ [])
 
-pub end_length : (used : ℕ) → length (line_end used) ≡ line_width - used + 1
-end_length used = omega (arith, length-append (blanks (line_width - used)) (10 ∷ []), blanks-length (line_width - used))
-
 -- the parts of a line
 pub line_parts : (position : List ℕ) (cells : List (List ℕ))
     → page_line position cells ≡ flush_right position_width position ++ (fields cells ++ line_end (length (line_text position cells)))
@@ -197,4 +196,4 @@ module _ (position : List ℕ) (cells : List (List ℕ)) (f : LineFits position 
       (drop-append-add front rest (k * cell_width) ∙ drop-append-le (k * cell_width) (fields cells) (ending) within)
       ∙ take-append-le cell_width (drop (k * cell_width) (fields cells)) (ending) room
       ∙ flat_row cell_width [] (map (flush_right cell_width) cells) k fields_wide (omega (arith, length-map cells (flush_right cell_width)))
-      ∙ map_at (flush_right cell_width) [] [] cells k h
+      ∙ get_or-map (flush_right cell_width) cells k [] [] h

@@ -10,6 +10,7 @@ use lib.Dec.{leb, ltb}
 use lib.ListN.{length, get_or, take, drop, length-map, length-take, length-drop}
 use lib.Seq.{take_at, drop_at, drop-append-le, take-append-le, get_or-take, get_or-drop}
 use borrow.Author.Tests.{lt-ltb, ltb-true}
+use Rattle.std.proofs.lemmas.List.{get_or-map}
 use Rattle.definitions.specs.Limits.{max_stored_rows}
 use Rattle.definitions.specs.Lists.{all, tabulate}
 use Rattle.definitions.specs.Word.{id_of}
@@ -24,7 +25,7 @@ use Rattle.definitions.specs.Page.{band_page, parts_of, band_pages, page_count, 
 use Rattle.definitions.specs.PageClaims.{line_bytes, page_lines, IsPage, CellPlace, before_field, bytes_at, CellShown, PageDone}
 use Rattle.definitions.specs.Promise.{BufferPromise, PagePromise, PagesAreWhole, NoCellIsLost}
 use Rattle.definitions.proofs.Bools.{bool_cases}
-use Rattle.definitions.proofs.Lists.{member-get, map_at}
+use Rattle.definitions.proofs.Lists.{member-get}
 use Rattle.definitions.proofs.Counts.{flatten-length}
 use Rattle.definitions.proofs.Flat.{Wide, flat_row, flat_part}
 use Rattle.definitions.proofs.Tabulate.{tabulate-length, tabulate-get, tabulate-member}
@@ -241,7 +242,7 @@ module _ (image : List ℕ) (p : Passed max_stored_rows image) (row column : ℕ
         ∙ line_cell (decimal row) (map cell_text (in_band band cells)) (row_line_fits image band row r) (column % band_columns)
         (omega (arith, length-map (in_band band cells) cell_text, cells_within))
         ∙ ap (flush_right cell_width)
-        (map_at cell_text 0 [] (in_band band cells) (column % band_columns) cells_within
+        (get_or-map cell_text (in_band band cells) (column % band_columns) 0 [] cells_within
         ∙ ap cell_text (band_column 0 cells column (omega (arith, cells_count))));
     position = ap (λ (k : ℕ). bytes_at k position_width (band_page image band part)) (sym (add-zero ((1 + row % page_rows) * line_bytes)))
         ∙ on_lines (1 + row % page_rows) 0 position_width (omega arith) (omega arith)
@@ -252,7 +253,7 @@ module _ (image : List ℕ) (p : Passed max_stored_rows image) (row column : ℕ
         ∙ line_cell [] (map id_text (in_band band (column_words image))) (id_line_fits image band) (column % band_columns)
         (omega (arith, length-map (in_band band (column_words image)) id_text, ids_within))
         ∙ ap (flush_right cell_width)
-        (map_at id_text 0 [] (in_band band (column_words image)) (column % band_columns) ids_within
+        (get_or-map id_text (in_band band (column_words image)) (column % band_columns) 0 [] ids_within
         ∙ ap id_text (band_column 0 (column_words image) column columns_count));
   }
     where

@@ -11,7 +11,8 @@ use Rattle.definitions.specs.Word.{is_filled}
 use Rattle.definitions.specs.MinimumUnion.{covers, subsumes}
 use Rattle.definitions.specs.ComplementUnion.{agree, share, counted_cells, complement}
 use Rattle.definitions.specs.Claims.{Filled, Complements}
-use Rattle.definitions.proofs.Bools.{bool_cases, bool_eq, clash, not_so, and_l, and_r, and_i, or_cases, or_l, or_r}
+use Rattle.std.proofs.lemmas.Bool.{and_from, and_parts, false_from_ne_true, or_cases, or_left, or_right}
+use Rattle.definitions.proofs.Bools.{bool_cases, bool_eq, clash}
 use Rattle.definitions.proofs.Rows.{filled_cell, empty_cell, cell_filled, cell_empty, covers_at, covers_of, agree_at, agree_of}
 use Rattle.definitions.proofs.Counted.{share_counted}
 use Rattle.definitions.proofs.Subsumption.{covers_self, covers_cases, subsumes_is}
@@ -32,17 +33,17 @@ only_at [] t e = absurd (clash refl (sym e))
 only_at (x ∷ s) [] e =
     ⊎_elim (λ q. (0, filled_cell x q, refl)) (λ q. let i = only_at s [] q in (suc i.0, i.1, refl)) (or_cases (is_filled x) (only s []) e)
 only_at (x ∷ s) (y ∷ t) e =
-    ⊎_elim (λ q. (0, filled_cell x (and_l (is_filled x) (not (is_filled y)) q), empty_cell y (not-true (is_filled y) (and_r (is_filled x) (not (is_filled y)) q))))
+    ⊎_elim (λ q. (0, filled_cell x (and_parts (is_filled x) (not (is_filled y)) q).0, empty_cell y (not-true (is_filled y) (and_parts (is_filled x) (not (is_filled y)) q).1)))
     (λ q. let i = only_at s t q in (suc i.0, i.1, i.2))
     (or_cases (is_filled x && not (is_filled y)) (only s t) e)
 
 only_of : (s t : List ℕ) (k : ℕ) → Filled (get_or s k 0) → get_or t k 0 ≡ 0 → only s t ≡ true
 unfolding only
 only_of [] t k h e = absurd (h refl)
-only_of (x ∷ s) [] zero h e = or_l (is_filled x) (only s []) (cell_filled x h)
-only_of (x ∷ s) [] (suc k) h e = or_r (is_filled x) (only s []) (only_of s [] k h e)
-only_of (x ∷ s) (y ∷ t) zero h e = or_l (is_filled x && not (is_filled y)) (only s t) (and_i (cell_filled x h) (ap not (cell_empty y e)))
-only_of (x ∷ s) (y ∷ t) (suc k) h e = or_r (is_filled x && not (is_filled y)) (only s t) (only_of s t k h e)
+only_of (x ∷ s) [] zero h e = or_left (is_filled x) (only s []) (cell_filled x h)
+only_of (x ∷ s) [] (suc k) h e = or_right (is_filled x) (only s []) (only_of s [] k h e)
+only_of (x ∷ s) (y ∷ t) zero h e = or_left (is_filled x && not (is_filled y)) (only s t) (and_from _ _ (cell_filled x h) (ap not (cell_empty y e)))
+only_of (x ∷ s) (y ∷ t) (suc k) h e = or_right (is_filled x && not (is_filled y)) (only s t) (only_of s t k h e)
 
 -- a row that is filled where s is empty is not covered by s
 only_uncovered : (s t : List ℕ) → only t s ≡ true → covers s t ≡ true → ⊥
@@ -59,7 +60,7 @@ agree-covers s t e h =
     (λ q. inl (empty_cell (get_or t k 0) q)))
 
 not_subsumed_of : (s t : List ℕ) → only t s ≡ true → subsumes s t ≡ false
-not_subsumed_of s t h = not_so (subsumes s t) (λ e. only_uncovered s t h ((subsumes_is s t).0 e).1)
+not_subsumed_of s t h = false_from_ne_true (subsumes s t) (λ e. only_uncovered s t h ((subsumes_is s t).0 e).1)
 
 module _ (columns : List ℕ) where
   -- an agreeing row that is filled nowhere else is equal or subsumed, so does not complement
@@ -76,18 +77,18 @@ module _ (columns : List ℕ) where
       bool_eq (complement columns s t) (only s t && (only t s && (sharing && agree s t)))
       (λ e.
       let c = (complement_is columns s t).0 e in
-      and_i (bool_cases (only s t) (λ q. q) (λ q. absurd (no_only t s (sym l) (complements_sym columns s t c) q)))
-      (and_i (bool_cases (only t s) (λ q. q) (λ q. absurd (no_only s t l c q)))
-      (and_i ((share_counted columns s t).1 c.sharing) (agree_of s t c.agreeing))))
+      and_from _ _ (bool_cases (only s t) (λ q. q) (λ q. absurd (no_only t s (sym l) (complements_sym columns s t c) q)))
+      (and_from _ _ (bool_cases (only t s) (λ q. q) (λ q. absurd (no_only s t l c q)))
+      (and_from _ _ ((share_counted columns s t).1 c.sharing) (agree_of s t c.agreeing))))
       (λ e.
-      let r = and_r (only s t) (only t s && (sharing && agree s t)) e in
-      let st = and_l (only s t) (only t s && (sharing && agree s t)) e in
-      let ts = and_l (only t s) (sharing && agree s t) r in
-      let u = and_r (only t s) (sharing && agree s t) r in
+      let r = (and_parts (only s t) (only t s && (sharing && agree s t)) e).1 in
+      let st = (and_parts (only s t) (only t s && (sharing && agree s t)) e).0 in
+      let ts = (and_parts (only t s) (sharing && agree s t) r).0 in
+      let u = (and_parts (only t s) (sharing && agree s t) r).1 in
       (complement_is columns s t).1 (record {
-        agreeing = agree_at s t (and_r sharing (agree s t) u);
+        agreeing = agree_at s t (and_parts sharing (agree s t) u).1;
         different = λ q. only_uncovered t s st (subst (λ (x : List ℕ). covers x s ≡ true) q (covers_self s));
         not_subsuming = not_subsumed_of s t ts;
         not_subsumed = not_subsumed_of t s st;
-        sharing = (share_counted columns s t).0 (and_l sharing (agree s t) u);
+        sharing = (share_counted columns s t).0 (and_parts sharing (agree s t) u).0;
       }))

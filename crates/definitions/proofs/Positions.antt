@@ -19,7 +19,7 @@ use Rattle.definitions.specs.OuterUnion.{compare_word}
 use Rattle.definitions.specs.Statements.{Member, StrictlyAscending}
 use Rattle.definitions.specs.Claims.{Holds}
 use Rattle.definitions.proofs.Tabulate.{tabulate_ext, tabulate-contains}
-use Rattle.definitions.proofs.Bools.{and_l, and_r}
+use Rattle.std.proofs.lemmas.Bool.{and_parts}
 use Rattle.definitions.proofs.Ascending.{above_all}
 use Rattle.definitions.proofs.Orders.{words, word_before}
 use Rattle.definitions.proofs.Lists.{any_none, any_true}
@@ -87,8 +87,8 @@ unfolding positions_of all
 positions_few bound from [] e = omega arith
 positions_few bound from (true ∷ s) e =
     let others = all (λ p. ltb p bound) (positions_of (suc from) s) in
-    let h = ltb-true from bound (and_l (ltb from bound) others e) in
-    let i = positions_few bound (suc from) s (and_r (ltb from bound) others e) in
+    let h = ltb-true from bound (and_parts (ltb from bound) others e).0 in
+    let i = positions_few bound (suc from) s (and_parts (ltb from bound) others e).1 in
     omega arith
 positions_few bound from (false ∷ s) e = let i = positions_few bound (suc from) s e in omega arith
 

@@ -14,7 +14,7 @@ use Rattle.definitions.specs.Word.{is_cell}
 use Rattle.definitions.specs.Image.{header, column_count, row_count, is_header, is_column, column_words, image_ids, cell_words, image_length}
 use Rattle.definitions.specs.Questions.{ask, image_number}
 use Rattle.definitions.specs.Claims.{Passed}
-use Rattle.definitions.proofs.Bools.{and_l, and_r, and_i}
+use Rattle.std.proofs.lemmas.Bool.{and_from, and_parts}
 
 pub ask_passed : (b : Bool) (number rest : ℕ) → ask b (suc number) rest ≡ 0 → (b ≡ true) × (rest ≡ 0)
 ask_passed true number rest e = (refl, e)
@@ -37,10 +37,10 @@ passed_is limit image = (to, from)
         let q6 = ask_passed (distinct eqb (image_ids image)) 5 _ q5.1 in
         let q7 = ask_passed (all is_cell (cell_words image)) 6 _ q6.1 in
         record {
-          first_word = ltb-true 0 (length image) (and_l (ltb 0 (length image)) (is_header (header image)) q1.0);
-          is_header_word = and_r (ltb 0 (length image)) (is_header (header image)) q1.0;
-          some_column = leb-true 1 (column_count image) (and_l (leb 1 (column_count image)) (leb (column_count image) max_columns) q2.0);
-          few_columns = leb-true (column_count image) max_columns (and_r (leb 1 (column_count image)) (leb (column_count image) max_columns) q2.0);
+          first_word = ltb-true 0 (length image) (and_parts (ltb 0 (length image)) (is_header (header image)) q1.0).0;
+          is_header_word = (and_parts (ltb 0 (length image)) (is_header (header image)) q1.0).1;
+          some_column = leb-true 1 (column_count image) (and_parts (leb 1 (column_count image)) (leb (column_count image) max_columns) q2.0).0;
+          few_columns = leb-true (column_count image) max_columns (and_parts (leb 1 (column_count image)) (leb (column_count image) max_columns) q2.0).1;
           few_rows = leb-true (row_count image) limit q3.0;
           all_words = eqb-true (length image) (image_length image) q4.0;
           all_column_words = q5.0;
@@ -50,8 +50,8 @@ passed_is limit image = (to, from)
 
     from : Passed limit image → image_number limit image ≡ 0
     from p =
-        asks _ 1 _ (and_i (lt-ltb 0 (length image) p.first_word) p.is_header_word)
-        (asks _ 2 _ (and_i (le-leb 1 (column_count image) p.some_column) (le-leb (column_count image) max_columns p.few_columns))
+        asks _ 1 _ (and_from _ _ (lt-ltb 0 (length image) p.first_word) p.is_header_word)
+        (asks _ 2 _ (and_from _ _ (le-leb 1 (column_count image) p.some_column) (le-leb (column_count image) max_columns p.few_columns))
         (asks _ 3 _ (le-leb (row_count image) limit p.few_rows)
         (asks _ 4 _ (eq-eqb (length image) (image_length image) p.all_words)
         (asks _ 5 _ p.all_column_words

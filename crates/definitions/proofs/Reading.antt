@@ -4,19 +4,19 @@ use mathlib.Core.Bool.{Bool, true, false, cond}
 use mathlib.Core.Logic.{inl, inr}
 use mathlib.Core.List.{List, [], ◌∷◌, ◌++◌, map, flatten}
 use Prim.Native.Nat.{ℕ, zero, suc, ◌+◌, ◌-◌, ◌*◌, ◌/◌, ◌%◌, ◌^◌, ◌<◌, ◌≤◌}
-use native.Mathlib.Numerals.{add-one}
 use native.Mathlib.Omega.{arith}
 use lib.Dec.{eqb}
 use lib.ListN.{length, get_or, take, drop, length-map, replicate}
-use lib.Seq.{drop-cons, take_at}
+use lib.Seq.{take_at}
+use Rattle.std.proofs.lemmas.List.{get_or-map}
 use Rattle.definitions.specs.Limits.{mark_words, set_width, max_union_rows, max_sets, marks_per_word}
 use Rattle.definitions.specs.Image.{rows_in}
 use Rattle.definitions.specs.ComplementUnion.{contains, complement_at, union_sets}
 use Rattle.definitions.specs.SetList.{fused_position, set_record, list_of, set_list}
 use Rattle.definitions.specs.Reading.{set_count, records_in, mark_at, marks_in, set_in, positions_of, joined_position}
 use Rattle.definitions.specs.Statements.{Member}
-use Rattle.definitions.proofs.Tabulate.{tabulate-length, tabulate-get, tabulate_ext, tabulate_wide}
-use Rattle.definitions.proofs.Lists.{map_at, map-member, member-get}
+use Rattle.definitions.proofs.Tabulate.{tabulate-length, tabulate_ext, tabulate_wide}
+use Rattle.definitions.proofs.Lists.{map-member, member-get}
 use Rattle.definitions.proofs.Sets.{listed_is}
 use Rattle.definitions.proofs.Counts.{set_record-length, fused_count}
 use Rattle.definitions.proofs.SetWords.{mark_bit, row_word, fused_position_within}
@@ -28,13 +28,6 @@ module _ (n : ℕ) (words : List ℕ) where
   pub marks_count : length (marks_in n words) ≡ n
   unfolding marks_in
   marks_count = tabulate-length n (mark_at words)
-
-  pub marks-drop : (p : ℕ) → p < n → drop p (marks_in n words) ≡ mark_at words p ∷ drop (p + 1) (marks_in n words)
-  unfolding marks_in
-  marks-drop p h =
-      let size = tabulate-length n (mark_at words) in
-      drop-cons (marks_in n words) p false (omega arith)
-      ∙ ap₂ (λ (x : Bool) (k : ℕ). x ∷ drop k (marks_in n words)) (tabulate-get false n (mark_at words) p h) (sym (add-one p))
 
 -- ---- positions
 
@@ -127,5 +120,5 @@ module _ (columns : List ℕ) (t : List (List ℕ)) (rest : List ℕ) where
   positions_at few k h =
       let s = get_or (union_sets columns t) k [] in
       ap (λ (l : List (List ℕ)). joined_position mark_words (get_or l k [])) (all_read few)
-      ∙ ap (joined_position mark_words) (map_at (set_record columns t) [] [] (union_sets columns t) k h)
+      ∙ ap (joined_position mark_words) (get_or-map (set_record columns t) (union_sets columns t) k [] [] h)
       ∙ position_read columns t s (listed_position few s (member-get [] (union_sets columns t) k h))

@@ -11,7 +11,8 @@ use Rattle.definitions.specs.Word.{is_filled}
 use Rattle.definitions.specs.MinimumUnion.{covers}
 use Rattle.definitions.specs.ComplementUnion.{same_row, agree, share}
 use Rattle.definitions.specs.Claims.{Filled, CellCovers, CellAgrees, Shared}
-use Rattle.definitions.proofs.Bools.{bool_cases, clash, and_l, and_r, and_i, or_cases, or_l, or_r}
+use Rattle.std.proofs.lemmas.Bool.{and_from, and_parts, or_cases, or_left, or_right}
+use Rattle.definitions.proofs.Bools.{bool_cases, clash}
 
 -- ---- cells
 
@@ -32,21 +33,21 @@ cell_empty w h = ap not (eq-eqb w 0 h)
 pub covers_at : (s t : List ℕ) → covers s t ≡ true → (k : ℕ) → CellCovers (get_or s k 0) (get_or t k 0)
 unfolding covers
 covers_at s [] e k = inl refl
-covers_at [] (y ∷ t) e zero = inl (empty_cell y (not-true (is_filled y) (and_l (not (is_filled y)) (covers [] t) e)))
-covers_at [] (y ∷ t) e (suc k) = covers_at [] t (and_r (not (is_filled y)) (covers [] t) e) k
+covers_at [] (y ∷ t) e zero = inl (empty_cell y (not-true (is_filled y) (and_parts (not (is_filled y)) (covers [] t) e).0))
+covers_at [] (y ∷ t) e (suc k) = covers_at [] t (and_parts (not (is_filled y)) (covers [] t) e).1 k
 covers_at (x ∷ s) (y ∷ t) e zero =
     ⊎_elim (λ q. inl (empty_cell y (not-true (is_filled y) q))) (λ q. inr (eqb-true x y q))
-    (or_cases (not (is_filled y)) (eqb x y) (and_l (not (is_filled y) || eqb x y) (covers s t) e))
-covers_at (x ∷ s) (y ∷ t) e (suc k) = covers_at s t (and_r (not (is_filled y) || eqb x y) (covers s t) e) k
+    (or_cases (not (is_filled y)) (eqb x y) (and_parts (not (is_filled y) || eqb x y) (covers s t) e).0)
+covers_at (x ∷ s) (y ∷ t) e (suc k) = covers_at s t (and_parts (not (is_filled y) || eqb x y) (covers s t) e).1 k
 
 pub covers_of : (s t : List ℕ) → ((k : ℕ) → CellCovers (get_or s k 0) (get_or t k 0)) → covers s t ≡ true
 unfolding covers
 covers_of s [] f = refl
 covers_of [] (y ∷ t) f =
-    and_i (ap not (cell_empty y (⊎_elim (λ q. q) (λ q. sym q) (f 0)))) (covers_of [] t (λ k. f (suc k)))
+    and_from _ _ (ap not (cell_empty y (⊎_elim (λ q. q) (λ q. sym q) (f 0)))) (covers_of [] t (λ k. f (suc k)))
 covers_of (x ∷ s) (y ∷ t) f =
-    and_i
-    (⊎_elim (λ q. or_l (not (is_filled y)) (eqb x y) (ap not (cell_empty y q))) (λ q. or_r (not (is_filled y)) (eqb x y) (eq-eqb x y q)) (f 0))
+    and_from _ _
+    (⊎_elim (λ q. or_left (not (is_filled y)) (eqb x y) (ap not (cell_empty y q))) (λ q. or_right (not (is_filled y)) (eqb x y) (eq-eqb x y q)) (f 0))
     (covers_of s t (λ k. f (suc k)))
 
 -- "every filled cell of t equals that of s"
@@ -58,12 +59,12 @@ unfolding agree
 agree_at [] t e k = inr (inl refl)
 agree_at (x ∷ s) [] e k = inr (inr refl)
 agree_at (x ∷ s) (y ∷ t) e zero =
-    let h = and_l (eqb x y || not (is_filled x) || not (is_filled y)) (agree s t) e in
+    let h = (and_parts (eqb x y || not (is_filled x) || not (is_filled y)) (agree s t) e).0 in
     ⊎_elim
     (λ p. ⊎_elim (λ q. inl (eqb-true x y q)) (λ q. inr (inl (empty_cell x (not-true (is_filled x) q)))) (or_cases (eqb x y) (not (is_filled x)) p))
     (λ p. inr (inr (empty_cell y (not-true (is_filled y) p))))
     (or_cases (eqb x y || not (is_filled x)) (not (is_filled y)) h)
-agree_at (x ∷ s) (y ∷ t) e (suc k) = agree_at s t (and_r (eqb x y || not (is_filled x) || not (is_filled y)) (agree s t) e) k
+agree_at (x ∷ s) (y ∷ t) e (suc k) = agree_at s t (and_parts (eqb x y || not (is_filled x) || not (is_filled y)) (agree s t) e).1 k
 
 pub agree_of : (s t : List ℕ) → ((k : ℕ) → CellAgrees (get_or s k 0) (get_or t k 0)) → agree s t ≡ true
 unfolding agree
@@ -71,12 +72,12 @@ agree_of [] t f = refl
 agree_of (x ∷ s) [] f = refl
 agree_of (x ∷ s) (y ∷ t) f =
     let some = eqb x y || not (is_filled x) in
-    and_i
-    (⊎_elim (λ q. or_l some (not (is_filled y)) (or_l (eqb x y) (not (is_filled x)) (eq-eqb x y q)))
+    and_from _ _
+    (⊎_elim (λ q. or_left some (not (is_filled y)) (or_left (eqb x y) (not (is_filled x)) (eq-eqb x y q)))
     (λ p.
     ⊎_elim
-    (λ q. or_l some (not (is_filled y)) (or_r (eqb x y) (not (is_filled x)) (ap not (cell_empty x q))))
-    (λ q. or_r some (not (is_filled y)) (ap not (cell_empty y q)))
+    (λ q. or_left some (not (is_filled y)) (or_right (eqb x y) (not (is_filled x)) (ap not (cell_empty x q))))
+    (λ q. or_right some (not (is_filled y)) (ap not (cell_empty y q)))
     p)
     (f 0))
     (agree_of s t (λ k. f (suc k)))
@@ -90,7 +91,7 @@ unfolding share
 share_at [] t e = absurd (clash refl (sym e))
 share_at (x ∷ s) [] e = absurd (clash refl (sym e))
 share_at (x ∷ s) (y ∷ t) e =
-    ⊎_elim (λ q. (0, filled_cell x (and_l (is_filled x) (eqb x y) q), eqb-true x y (and_r (is_filled x) (eqb x y) q)))
+    ⊎_elim (λ q. (0, filled_cell x (and_parts (is_filled x) (eqb x y) q).0, eqb-true x y (and_parts (is_filled x) (eqb x y) q).1))
     (λ q. let i = share_at s t q in (suc i.0, i.1, i.2))
     (or_cases (is_filled x && eqb x y) (share s t) e)
 
@@ -98,8 +99,8 @@ share_of : (s t : List ℕ) (k : ℕ) → Filled (get_or s k 0) → get_or s k 0
 unfolding share
 share_of [] t k h e = absurd (h refl)
 share_of (x ∷ s) [] k h e = absurd (h e)
-share_of (x ∷ s) (y ∷ t) zero h e = or_l (is_filled x && eqb x y) (share s t) (and_i (cell_filled x h) (eq-eqb x y e))
-share_of (x ∷ s) (y ∷ t) (suc k) h e = or_r (is_filled x && eqb x y) (share s t) (share_of s t k h e)
+share_of (x ∷ s) (y ∷ t) zero h e = or_left (is_filled x && eqb x y) (share s t) (and_from _ _ (cell_filled x h) (eq-eqb x y e))
+share_of (x ∷ s) (y ∷ t) (suc k) h e = or_right (is_filled x && eqb x y) (share s t) (share_of s t k h e)
 
 -- "(3) some column is filled in both with the same number"
 pub share_is : (s t : List ℕ) → (share s t ≡ true) ↔ Shared s t
@@ -111,12 +112,12 @@ same_at [] [] e = refl
 same_at [] (y ∷ t) e = absurd (clash refl (sym e))
 same_at (x ∷ s) [] e = absurd (clash refl (sym e))
 same_at (x ∷ s) (y ∷ t) e =
-    ap₂ (λ (a : ℕ) (l : List ℕ). a ∷ l) (eqb-true x y (and_l (eqb x y) (same_row s t) e)) (same_at s t (and_r (eqb x y) (same_row s t) e))
+    ap₂ (λ (a : ℕ) (l : List ℕ). a ∷ l) (eqb-true x y (and_parts (eqb x y) (same_row s t) e).0) (same_at s t (and_parts (eqb x y) (same_row s t) e).1)
 
 same_self : (s : List ℕ) → same_row s s ≡ true
 unfolding same_row
 same_self [] = refl
-same_self (x ∷ s) = and_i (eq-eqb x x refl) (same_self s)
+same_self (x ∷ s) = and_from _ _ (eq-eqb x x refl) (same_self s)
 
 pub same_is : (s t : List ℕ) → (same_row s t ≡ true) ↔ (s ≡ t)
 same_is s t = (same_at s t, λ e. subst (λ (u : List ℕ). same_row s u ≡ true) e (same_self s))

@@ -14,7 +14,8 @@ use Rattle.definitions.specs.Lists.{all_below}
 use Rattle.definitions.specs.ComplementUnion.{contains, compare_set, subsets, adjacent_to_all, is_complementing, is_maximal, maximal_sets}
 use Rattle.definitions.specs.Statements.{Member, StrictlyAscending}
 use Rattle.definitions.specs.Claims.{Holds, Complementing, Maximal}
-use Rattle.definitions.proofs.Bools.{bool_cases, clash, not_so, and_l, and_r, and_i, or_cases, or_l, or_r}
+use Rattle.std.proofs.lemmas.Bool.{and_from, and_parts, false_from_ne_true, or_cases, or_left, or_right}
+use Rattle.definitions.proofs.Bools.{bool_cases, clash}
 use Rattle.definitions.proofs.Ascending.{member_split, member-join, determined}
 use Rattle.definitions.proofs.Orders.{sets, subsets_rise}
 use Rattle.definitions.proofs.Lists.{member-map, map-member, member_filter, filter-member, strict-filter, below_true, below_of, below_false}
@@ -80,9 +81,6 @@ sized_subset (suc n) (false ∷ s) e =
     member-join (false ∷ s) (map (λ t. true ∷ t) (subsets n)) (map (λ t. false ∷ t) (subsets n))
     (inr (member-map (λ (t : List Bool). false ∷ t) s (subsets n) (sized_subset n s (omega arith))))
 
-pub subsets_are : (n : ℕ) (s : List Bool) → Member s (subsets n) ↔ (length s ≡ n)
-subsets_are n s = (subset_size n s, sized_subset n s)
-
 -- ---- what is listed
 
 implies_use : (a b : Bool) → (not a || b) ≡ true → a ≡ true → b ≡ true
@@ -112,7 +110,7 @@ module _ (adjacent : ℕ → ℕ → Bool) (n : ℕ) where
       (i.0, q.0, q.1)
 
   adjacent-all-not : (s : List Bool) (j k : ℕ) → length s ≡ n → Holds s k → adjacent j k ≡ false → adjacent_to_all adjacent n s j ≡ false
-  adjacent-all-not s j k e g h = not_so (adjacent_to_all adjacent n s j) (λ q. clash (adjacent-all s j e q k g) h)
+  adjacent-all-not s j k e g h = false_from_ne_true (adjacent_to_all adjacent n s j) (λ q. clash (adjacent-all s j e q k g) h)
 
   pub complementing_is : (s : List Bool) → length s ≡ n → (is_complementing adjacent n s ≡ true) ↔ Complementing adjacent n s
   unfolding is_complementing
@@ -128,27 +126,27 @@ module _ (adjacent : ℕ → ℕ → Bool) (n : ℕ) where
       to h = record {
         size = e;
         some =
-            let i = below_false (λ k. not (contains s k)) n (not-true none (and_l (not none) (all_below n (λ j. all_below n (pair j))) h)) in
+            let i = below_false (λ k. not (contains s k)) n (not-true none (and_parts (not none) (all_below n (λ j. all_below n (pair j))) h).0) in
             (i.0, not-false (contains s i.0) i.2);
         pairwise = λ j k hj hk d.
             implies_use (contains s j && contains s k && not (eqb j k)) (adjacent j k)
             (below_true (pair j) n
-            (below_true (λ j. all_below n (pair j)) n (and_r (not none) (all_below n (λ j. all_below n (pair j))) h) j (rw (← e) (holds_within s j hj)))
+            (below_true (λ j. all_below n (pair j)) n (and_parts (not none) (all_below n (λ j. all_below n (pair j))) h).1 j (rw (← e) (holds_within s j hj)))
             k (rw (← e) (holds_within s k hk)))
-            (and_i (and_i hj hk) (ap not (ne_eqb j k d)));
+            (and_from _ _ (and_from _ _ hj hk) (ap not (ne_eqb j k d)));
       }
 
       from : Complementing adjacent n s → is_complementing adjacent n s ≡ true
       from c =
-          and_i
+          and_from _ _
           (bool_cases none
           (λ h. absurd (clash (below_true (λ k. not (contains s k)) n h c.some.0 (rw (← e) (holds_within s c.some.0 c.some.1))) (ap not c.some.1)))
           (λ h. ap not h))
           (below_of (λ j. all_below n (pair j)) n (λ j hj. below_of (pair j) n (λ k hk.
           implies_of (contains s j && contains s k && not (eqb j k)) (adjacent j k) (λ h.
-          let both = and_l (contains s j && contains s k) (not (eqb j k)) h in
-          c.pairwise j k (and_l (contains s j) (contains s k) both) (and_r (contains s j) (contains s k) both)
-          (eqb-false j k (not-true (eqb j k) (and_r (contains s j && contains s k) (not (eqb j k)) h)))))))
+          let both = (and_parts (contains s j && contains s k) (not (eqb j k)) h).0 in
+          c.pairwise j k (and_parts (contains s j) (contains s k) both).0 (and_parts (contains s j) (contains s k) both).1
+          (eqb-false j k (not-true (eqb j k) (and_parts (contains s j && contains s k) (not (eqb j k)) h).1))))))
 
   outside_is : (s : List Bool) → length s ≡ n → (is_maximal adjacent n s ≡ true) ↔ ((j : ℕ) → j < n → contains s j ≡ false → (k : ℕ) × Holds s k × (adjacent j k ≡ false))
   unfolding is_maximal
@@ -156,8 +154,8 @@ module _ (adjacent : ℕ → ℕ → Bool) (n : ℕ) where
     λ h j lt out. adjacent_some_not s j (not-true (adjacent_to_all adjacent n s j)
         (⊎_elim (λ q. absurd (clash q out)) (λ q. q) (or_cases (contains s j) (not (adjacent_to_all adjacent n s j)) (below_true (λ j. contains s j || not (adjacent_to_all adjacent n s j)) n h j lt)))),
     λ f. below_of (λ j. contains s j || not (adjacent_to_all adjacent n s j)) n (λ j lt.
-        bool_cases (contains s j) (λ q. or_l (contains s j) (not (adjacent_to_all adjacent n s j)) q)
-        (λ q. let i = f j lt q in or_r (contains s j) (not (adjacent_to_all adjacent n s j)) (ap not (adjacent-all-not s j i.0 e i.1 i.2)))),
+        bool_cases (contains s j) (λ q. or_left (contains s j) (not (adjacent_to_all adjacent n s j)) q)
+        (λ q. let i = f j lt q in or_right (contains s j) (not (adjacent_to_all adjacent n s j)) (ap not (adjacent-all-not s j i.0 e i.1 i.2)))),
   )
 
   -- a set is listed exactly if it is a maximal complementing set
@@ -168,13 +166,13 @@ module _ (adjacent : ℕ → ℕ → Bool) (n : ℕ) where
         let i = filter-member (λ s. is_complementing adjacent n s && is_maximal adjacent n s) s (subsets n) h in
         let e = subset_size n s i.0 in
         record {
-          complementing = (complementing_is s e).0 (and_l (is_complementing adjacent n s) (is_maximal adjacent n s) i.1);
-          outside = (outside_is s e).0 (and_r (is_complementing adjacent n s) (is_maximal adjacent n s) i.1);
+          complementing = (complementing_is s e).0 (and_parts (is_complementing adjacent n s) (is_maximal adjacent n s) i.1).0;
+          outside = (outside_is s e).0 (and_parts (is_complementing adjacent n s) (is_maximal adjacent n s) i.1).1;
         },
     λ m.
         let e = m.complementing.size in
         member_filter (λ s. is_complementing adjacent n s && is_maximal adjacent n s) s (subsets n) (sized_subset n s e)
-        (and_i ((complementing_is s e).1 m.complementing) ((outside_is s e).1 m.outside)),
+        (and_from _ _ ((complementing_is s e).1 m.complementing) ((outside_is s e).1 m.outside)),
   )
 
   -- each listed set stands there once, in set order

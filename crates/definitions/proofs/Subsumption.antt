@@ -11,7 +11,8 @@ use borrow.Author.Tests.{eqb-true, ltb-true, ltb-false, lt-ltb, le-ltb, not-true
 use Rattle.definitions.specs.Word.{is_filled}
 use Rattle.definitions.specs.MinimumUnion.{filled, covers, subsumes}
 use Rattle.definitions.specs.Claims.{empties, CellCovers}
-use Rattle.definitions.proofs.Bools.{bool_cases, clash, and_l, and_r, and_i, or_cases}
+use Rattle.std.proofs.lemmas.Bool.{and_from, and_parts, or_cases}
+use Rattle.definitions.proofs.Bools.{bool_cases}
 use Rattle.definitions.proofs.Rows.{empty_cell, covers_at, covers_of}
 
 pub filled-empties : (s : List ℕ) → filled s + empties s ≡ length s
@@ -33,8 +34,8 @@ more_empty s t e =
 pub subsumes_is : (s t : List ℕ) → (subsumes s t ≡ true) ↔ ((filled t < filled s) × (covers s t ≡ true))
 unfolding subsumes
 subsumes_is s t = (
-  λ e. (ltb-true (filled t) (filled s) (and_l (ltb (filled t) (filled s)) (covers s t) e), and_r (ltb (filled t) (filled s)) (covers s t) e),
-  λ h. and_i (lt-ltb (filled t) (filled s) h.0) h.1,
+  λ e. (ltb-true (filled t) (filled s) (and_parts (ltb (filled t) (filled s)) (covers s t) e).0, (and_parts (ltb (filled t) (filled s)) (covers s t) e).1),
+  λ h. and_from _ _ (lt-ltb (filled t) (filled s) h.0) h.1,
 )
 
 -- "Row s subsumes row t if t has more empty cells than s and every filled cell of t equals that of s."
@@ -62,20 +63,17 @@ pub subsumes_self : (s : List ℕ) → subsumes s s ≡ false
 unfolding subsumes
 subsumes_self s = ap (λ (b : Bool). b && covers s s) (le-ltb (filled s) (filled s) (omega arith))
 
-pub subsumes_apart : (s t : List ℕ) → subsumes s t ≡ true → s ≡ t → ⊥
-subsumes_apart s t h e = clash h (ap (subsumes s) (sym e) ∙ subsumes_self s)
-
 -- a row covers only rows with fewer filled cells, and itself
 pub covers-filled : (s t : List ℕ) → covers s t ≡ true → filled t ≤ filled s
 unfolding covers filled
 covers-filled s [] e = omega arith
 covers-filled [] (y ∷ t) e =
-    let i = covers-filled [] t (and_r (not (is_filled y)) (covers [] t) e) in
-    rw (not-true (is_filled y) (and_l (not (is_filled y)) (covers [] t) e)) (omega arith)
+    let i = covers-filled [] t (and_parts (not (is_filled y)) (covers [] t) e).1 in
+    rw (not-true (is_filled y) (and_parts (not (is_filled y)) (covers [] t) e).0) (omega arith)
 covers-filled (x ∷ s) (y ∷ t) e =
-    let i = covers-filled s t (and_r (not (is_filled y) || eqb x y) (covers s t) e) in
+    let i = covers-filled s t (and_parts (not (is_filled y) || eqb x y) (covers s t) e).1 in
     ⊎_elim (λ q. rw (not-true (is_filled y) q) (omega arith)) (λ q. rw (eqb-true x y q) (omega arith))
-    (or_cases (not (is_filled y)) (eqb x y) (and_l (not (is_filled y) || eqb x y) (covers s t) e))
+    (or_cases (not (is_filled y)) (eqb x y) (and_parts (not (is_filled y) || eqb x y) (covers s t) e).0)
 
 pub covers_same : (s t : List ℕ) → length s ≡ length t → covers s t ≡ true → filled t ≡ filled s → s ≡ t
 unfolding covers filled
@@ -83,7 +81,7 @@ covers_same [] [] l e f = refl
 covers_same [] (y ∷ t) l e f = absurd (omega arith)
 covers_same (x ∷ s) [] l e f = absurd (omega arith)
 covers_same (x ∷ s) (y ∷ t) l e f =
-    let c = and_r (not (is_filled y) || eqb x y) (covers s t) e in
+    let c = (and_parts (not (is_filled y) || eqb x y) (covers s t) e).1 in
     let i = covers-filled s t c in
     let rest : filled t ≡ filled s → s ≡ t = covers_same s t (omega arith) c in
     let both : x ≡ y → filled t ≡ filled s → (x ∷ s) ≡ (y ∷ t) = λ q r. ap₂ (λ (a : ℕ) (u : List ℕ). a ∷ u) q (rest r) in
@@ -95,7 +93,7 @@ covers_same (x ∷ s) (y ∷ t) l e f =
     (λ p. absurd (let k = rw p at g in omega arith))
     (λ p. both (empty_cell x p ∙ sym (empty_cell y n)) (let k = rw p at g in omega arith)))
     (λ q. let p = eqb-true x y q in both p (let k = rw p at f in omega arith))
-    (or_cases (not (is_filled y)) (eqb x y) (and_l (not (is_filled y) || eqb x y) (covers s t) e))
+    (or_cases (not (is_filled y)) (eqb x y) (and_parts (not (is_filled y) || eqb x y) (covers s t) e).0)
 
 -- of equally long rows, a covered row is equal or subsumed
 pub covers_cases : (s t : List ℕ) → length s ≡ length t → covers s t ≡ true → (s ≡ t) ⊎ (subsumes s t ≡ true)

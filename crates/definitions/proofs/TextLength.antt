@@ -34,9 +34,8 @@ use Rattle.definitions.specs.declared.Output.{Output}
 use Rattle.definitions.specs.declared.Output.TheVariants.{Listing, Pages}
 use Rattle.definitions.proofs.Bools.{bool_cases}
 use Rattle.definitions.proofs.Subsumption.{filled-empties}
-use Rattle.definitions.proofs.Minimum.{minimum_is}
 use Rattle.definitions.proofs.Counts.{flatten-length, fused_count, minimum_count, pairs_bound}
-use Rattle.definitions.proofs.Unions.{columns_count, rows_even, fused_even}
+use Rattle.definitions.proofs.Unions.{columns_count, rows_even, minimum_even, fused_even}
 use Rattle.definitions.proofs.Outcomes.{complement_done}
 use Rattle.definitions.proofs.Images.{accepted_rows}
 use Rattle.definitions.proofs.Reading.{listed_length, listed_position}
@@ -74,9 +73,6 @@ module _ (a b : List ℕ) (room sets_room : ℕ) (values : List ℕ) (d : Comple
   abbrev c : ℕ
   c = length columns
 
-  minimum_even : (r : List ℕ) → Member r (minimum_rows T) → length r ≡ c
-  minimum_even r h = rows_even a b r ((minimum_is T r).0 h).0
-
   union_bound : length (union_text a b) ≤ 104 + 18 + row_bytes * max_union_rows
   unfolding union_text
   union_bound =
@@ -104,9 +100,9 @@ module _ (a b : List ℕ) (room sets_room : ℕ) (values : List ℕ) (d : Comple
       let pairs : pairs_tried T < 10 ^ 5 = omega (arith, pairs_bound T, mul-le-mul most less) in
       let numbers : (n : ℕ) → Member n (length M ∷ filled (flatten M) ∷ pairs_tried T ∷ []) → n < 10 ^ 5 =
       λ n h. ⊎_elim (λ e. omega arith)
-      (two (filled (flatten M)) (pairs_tried T) (filled_small c M minimum_even few (omega arith)) pairs n) h in
+      (two (filled (flatten M)) (pairs_tried T) (filled_small c M (minimum_even a b) few (omega arith)) pairs n) h in
       let title = title_bound (ascii "minimum") (length M ∷ filled (flatten M) ∷ pairs_tried T ∷ []) numbers in
-      omega (arith, length-append (minimum_title (length M) (filled (flatten M)) (pairs_tried T)) (row_lines M), rows_bound c M minimum_even few)
+      omega (arith, length-append (minimum_title (length M) (filled (flatten M)) (pairs_tried T)) (row_lines M), rows_bound c M (minimum_even a b) few)
 
   sets_bound : length (sets_text a b) ≤ 11 + set_bytes * max_sets
   unfolding sets_text

@@ -17,7 +17,8 @@ use Rattle.definitions.specs.OuterUnion.{union_ids, marks, union_columns}
 use Rattle.definitions.specs.Calls.{Accepted}
 use Rattle.definitions.specs.Statements.{Member}
 use Rattle.definitions.specs.Claims.{MarkedIn}
-use Rattle.definitions.proofs.Bools.{bool_eq, and_l, and_r, and_i, or_cases, or_l, or_r}
+use Rattle.std.proofs.lemmas.Bool.{and_from, and_parts, or_cases, or_left, or_right}
+use Rattle.definitions.proofs.Bools.{bool_eq}
 use Rattle.definitions.proofs.Lists.{any_true, any_of, member-map, map-member}
 use Rattle.definitions.proofs.Unions.{ids_are, columns_count}
 
@@ -42,8 +43,8 @@ module _ (id : ℕ) (image : List ℕ) where
     λ e.
         let i = any_true marking (column_words image) e in
         let w = i.0 in
-        (w, i.1, sym (eqb-true id (id_of w) (and_l (eqb id (id_of w)) (mark_of w) i.2)), and_r (eqb id (id_of w)) (mark_of w) i.2),
-    λ m. any_of marking m.0 (column_words image) m.1 (and_i (eq-eqb id (id_of m.0) (sym m.2)) m.3),
+        (w, i.1, sym (eqb-true id (id_of w) (and_parts (eqb id (id_of w)) (mark_of w) i.2).0), (and_parts (eqb id (id_of w)) (mark_of w) i.2).1),
+    λ m. any_of marking m.0 (column_words image) m.1 (and_from _ _ (eq-eqb id (id_of m.0) (sym m.2)) m.3),
   )
 
 -- ---- the union
@@ -114,8 +115,8 @@ module _ (a b : List ℕ) where
         λ m.
             mark
             ∙ ⊎_elim
-            (λ q. or_l (marks (column_words a) id) (marks (column_words b) id) ((marks_is id a).1 q))
-            (λ q. or_r (marks (column_words a) id) (marks (column_words b) id) ((marks_is id b).1 q))
+            (λ q. or_left (marks (column_words a) id) (marks (column_words b) id) ((marks_is id a).1 q))
+            (λ q. or_right (marks (column_words a) id) (marks (column_words b) id) ((marks_is id b).1 q))
             (subst (λ (k : ℕ). MarkedIn a k ⊎ MarkedIn b k) same m),
       )
 
@@ -127,8 +128,8 @@ module _ (a b : List ℕ) where
       (λ e.
       let i = any_true mark_of (union_columns a b) e in
       ⊎_elim
-      (λ m. or_l (any mark_of (column_words a)) (any mark_of (column_words b)) (any_of mark_of m.0 (column_words a) m.1 m.3))
-      (λ m. or_r (any mark_of (column_words a)) (any mark_of (column_words b)) (any_of mark_of m.0 (column_words b) m.1 m.3))
+      (λ m. or_left (any mark_of (column_words a)) (any mark_of (column_words b)) (any_of mark_of m.0 (column_words a) m.1 m.3))
+      (λ m. or_right (any mark_of (column_words a)) (any mark_of (column_words b)) (any_of mark_of m.0 (column_words b) m.1 m.3))
       ((marks-either i.0 i.1).0 i.2))
       (λ e.
       ⊎_elim

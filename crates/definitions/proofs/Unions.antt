@@ -25,9 +25,6 @@ use Rattle.definitions.proofs.Counts.{image_length_lem}
 -- ---- over any order
 
 module _ {A : Type 0} {compare : A → A → Ordering} (laws : Orders compare) where
-  pub ascending_are : (l : List A) (x : A) → Member x (ascending compare l) ↔ Member x l
-  ascending_are l x = (ascending_only laws x l, ascending-has laws x l)
-
   -- no other strictly ascending list has these elements
   pub ascending_alone : (l t : List A) → StrictlyAscending compare t → ((x : A) → Member x t ↔ Member x l) → t ≡ ascending compare l
   ascending_alone l t h f =
@@ -99,6 +96,9 @@ module _ (a b : List ℕ) where
   pub rows_even : (r : List ℕ) → Member r (union_rows a b) → length r ≡ length (union_columns a b)
   rows_even r h = ⊎_elim (widened-length a r) (widened-length b r) ((rows_are r).0 h)
 
+  pub minimum_even : (r : List ℕ) → Member r (minimum_rows (union_rows a b)) → length r ≡ length (union_columns a b)
+  minimum_even r h = rows_even r ((minimum_is (union_rows a b) r).0 h).0
+
 -- ---- "The fused table holds the distinct joined rows, ascending."
 
 module _ (columns : List ℕ) (t : List (List ℕ)) where
@@ -138,7 +138,7 @@ module _ (a b : List ℕ) where
 
   pub minimum_length : length (minimum_image a b) ≡ 1 + length columns + length (minimum_rows (union_rows a b)) * length columns
   unfolding minimum_image
-  minimum_length = image_length_lem columns (minimum_rows (union_rows a b)) (λ r h. rows_even a b r ((minimum_is (union_rows a b) r).0 h).0)
+  minimum_length = image_length_lem columns (minimum_rows (union_rows a b)) (minimum_even a b)
 
   pub fused_length : length (fused_image a b) ≡ 1 + length columns + length (fused_rows columns (union_rows a b)) * length columns
   unfolding fused_image

@@ -19,7 +19,8 @@ use Rattle.definitions.specs.SetList.{set_list}
 use Rattle.definitions.specs.Questions.{columns_right}
 use Rattle.definitions.specs.Calls.{pair_outcome, outer_image, minimum_image, fused_table, fused_image, sets_outcome, complement_outcome}
 use Rattle.definitions.specs.Unmarked.{Unmarked, columns_before, words_before, complement_before, sets_before, AsBefore}
-use Rattle.definitions.proofs.Bools.{bool_eq, and-no_r, or_no, or-no_l, or-no_r}
+use Rattle.std.proofs.lemmas.Bool.{and_right, or_from, or_parts}
+use Rattle.definitions.proofs.Bools.{bool_eq}
 use Rattle.definitions.proofs.Sets.{listed_ext}
 use Rattle.definitions.proofs.UnionColumns.{any_marked}
 
@@ -50,7 +51,7 @@ module _ (image : List ℕ) (none : Unmarked image) where
       each [] e = refl
       each (w ∷ words) e =
           ap₂ (λ (x y : Bool). (eqb (kind_of w) 2 && x) && y)
-          (spare_before w (or-no_l (mark_of w) (any mark_of words) e)) (each words (or-no_r (mark_of w) (any mark_of words) e))
+          (spare_before w (or_parts (mark_of w) (any mark_of words) e).0) (each words (or_parts (mark_of w) (any mark_of words) e).1)
 
   -- no column is marked, whatever its id
   marks_none : (id : ℕ) → marks (column_words image) id ≡ false
@@ -60,8 +61,8 @@ module _ (image : List ℕ) (none : Unmarked image) where
       each : (words : List ℕ) → any mark_of words ≡ false → marks words id ≡ false
       each [] e = refl
       each (w ∷ words) e =
-          or_no (and-no_r (eqb id (id_of w)) (mark_of w) (or-no_l (mark_of w) (any mark_of words) e))
-          (each words (or-no_r (mark_of w) (any mark_of words) e))
+          or_from _ _ (and_right (eqb id (id_of w)) (mark_of w) (or_parts (mark_of w) (any mark_of words) e).0)
+          (each words (or_parts (mark_of w) (any mark_of words) e).1)
 
 -- ---- condition (3)
 
@@ -81,10 +82,10 @@ module _ (a b : List ℕ) (first : Unmarked a) (second : Unmarked b) where
       each [] = refl
       each (id ∷ ids) =
           ap₂ (λ (w : ℕ) (l : List ℕ). w ∷ l)
-          (ap (column_word id) (or_no (marks_none a first id) (marks_none b second id)) ∙ ap (word_of 2) (zero-add id)) (each ids)
+          (ap (column_word id) (or_from _ _ (marks_none a first id) (marks_none b second id)) ∙ ap (word_of 2) (zero-add id)) (each ids)
 
   words_unmarked : any mark_of (words_before a b) ≡ false
-  words_unmarked = ap (any mark_of) (sym columns_before_lem) ∙ any_marked a b ∙ or_no first second
+  words_unmarked = ap (any mark_of) (sym columns_before_lem) ∙ any_marked a b ∙ or_from _ _ first second
 
   sets_before_lem : union_sets (words_before a b) (union_rows a b) ≡ sets_before (union_rows a b)
   unfolding union_sets

@@ -8,15 +8,16 @@ use native.Mathlib.Omega.{arith}
 use lib.Dec.{eqb}
 use lib.ListN.{length, get_or, get_or-eq_default}
 use borrow.Author.Tests.{eqb-false, eq-eqb, ne_eqb}
+use Rattle.std.proofs.lemmas.List.{get_or-map}
 use Rattle.definitions.specs.Lists.{any, find_index, distinct}
 use Rattle.definitions.specs.OuterUnion.{cell_in, widened}
 use Rattle.definitions.specs.Statements.{Member}
-use Rattle.definitions.proofs.Lists.{map_at, any_none, find_index_of, find_index_none, distinct_true}
+use Rattle.definitions.proofs.Lists.{any_none, find_index_of, find_index_none, distinct_true}
 
 module _ (union ids row : List ℕ) where
   pub widened_at : (k : ℕ) → k < length union → get_or (widened union ids row) k 0 ≡ cell_in ids row (get_or union k 0)
   unfolding widened
-  widened_at k h = map_at (cell_in ids row) 0 0 union k h
+  widened_at k h = get_or-map (cell_in ids row) union k 0 0 h
 
   -- an id has one index among distinct ids
   pub cell_own : distinct eqb ids ≡ true → (j : ℕ) → j < length ids → cell_in ids row (get_or ids j 0) ≡ get_or row j 0

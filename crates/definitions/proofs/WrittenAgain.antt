@@ -18,7 +18,7 @@ use Rattle.definitions.specs.ReadBack.{Entry, entry_in, entry_words, read_words,
 use Rattle.definitions.specs.Statements.{Member}
 use Rattle.definitions.specs.Claims.{AcceptedList}
 use Rattle.definitions.specs.Promise.{WrittenAgain}
-use Rattle.definitions.proofs.Bools.{and_l, and_r}
+use Rattle.std.proofs.lemmas.Bool.{and_parts}
 use Rattle.definitions.proofs.Lists.{map_ext, all_true, all_of}
 use Rattle.definitions.proofs.Images.{words_rows, rows_length, rows_wide}
 use Rattle.definitions.proofs.Reading.{marks_count}
@@ -96,8 +96,8 @@ module _ (m rows : ℕ) (list : List ℕ) (l : WellFormed m rows list) where
   header_again : header_word (set_count list) (suc m) ≡ header list
   header_again =
       let w = header list in
-      let kind = eqb-true (kind_of w) 3 (and_l (eqb (kind_of w) 3) (eqb (header_spare w) 0) l.is_header_word) in
-      let spare = eqb-true (header_spare w) 0 (and_r (eqb (kind_of w) 3) (eqb (header_spare w) 0) l.is_header_word) in
+      let kind = eqb-true (kind_of w) 3 (and_parts (eqb (kind_of w) 3) (eqb (header_spare w) 0) l.is_header_word).0 in
+      let spare = eqb-true (header_spare w) 0 (and_parts (eqb (kind_of w) 3) (eqb (header_spare w) 0) l.is_header_word).1 in
       let width = l.width in
       omega arith
 

@@ -6,25 +6,25 @@ ghost use Rattle.definitions.specs.Refusal.{question_number, table_number, put_t
 use std::error::Error;
 use std::fmt;
 
-// The questions of document 01, in their order, and the checks of the requests, each by what it asks.
+// The questions of document 01, in their order, and the checks of the requests, each by what it asks and with its number in the documents.
 #[derive(Clone, Copy, Debug, PartialEq, Eq)]
 pub enum Question {
-    Header,
-    Columns,
-    Rows,
-    Length,
-    ColumnWords,
-    Ids,
-    Cells,
-    UnionColumns,
-    Sets,
-    TableRoom,
-    SetRoom,
-    ListLayout,
-    Records,
-    SetOrder,
-    Page,
-    PageRoom,
+    Header = 1,
+    Columns = 2,
+    Rows = 3,
+    Length = 4,
+    ColumnWords = 5,
+    Ids = 6,
+    Cells = 7,
+    UnionColumns = 8,
+    Sets = 9,
+    TableRoom = 10,
+    SetRoom = 11,
+    ListLayout = 12,
+    Records = 13,
+    SetOrder = 14,
+    Page = 15,
+    PageRoom = 16,
 }
 
 impl Question {
@@ -32,24 +32,7 @@ impl Question {
     pub fn number(self) -> u32
         ensures { result ≡ question_number self }
     {
-        match self {
-            Question::Header => 1,
-            Question::Columns => 2,
-            Question::Rows => 3,
-            Question::Length => 4,
-            Question::ColumnWords => 5,
-            Question::Ids => 6,
-            Question::Cells => 7,
-            Question::UnionColumns => 8,
-            Question::Sets => 9,
-            Question::TableRoom => 10,
-            Question::SetRoom => 11,
-            Question::ListLayout => 12,
-            Question::Records => 13,
-            Question::SetOrder => 14,
-            Question::Page => 15,
-            Question::PageRoom => 16,
-        }
+        self as u32
     }
 
     // A no to it, where it was put to this table.
@@ -63,12 +46,12 @@ impl Question {
     }
 }
 
-// The table that a question is put to: the first or only one, the second, or what both make.
+// The table that a question is put to, with its number in an answer: the first or only one, the second, or what both make.
 #[derive(Clone, Copy, Debug, PartialEq, Eq)]
 pub enum Subject {
-    First,
-    Second,
-    Both,
+    First = 0,
+    Second = 1,
+    Both = 2,
 }
 
 impl Subject {
@@ -76,11 +59,7 @@ impl Subject {
     pub fn number(self) -> u32
         ensures { result ≡ table_number self }
     {
-        match self {
-            Subject::First => 0,
-            Subject::Second => 1,
-            Subject::Both => 2,
-        }
+        self as u32
     }
 }
 

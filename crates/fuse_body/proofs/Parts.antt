@@ -3,11 +3,12 @@
 use mathlib.Core.Path.{◌≡◌, refl, sym, ◌∙◌, ap, ap₂, subst}
 use mathlib.Core.Bool.{Bool}
 use mathlib.Core.List.{List, [], ◌∷◌, ◌++◌, map, map-map, flatten}
-use Prim.Native.Nat.{ℕ, ◌+◌, ◌≤◌}
+use Prim.Native.Nat.{ℕ, ◌+◌, ◌-◌, ◌*◌, ◌/◌, ◌≤◌}
 use native.Mathlib.Omega.{arith}
-use lib.ListN.{length, take, drop, length-append}
-use lib.Seq.{take_at}
+use lib.ListN.{length, take, drop, length-append, length-drop}
+use lib.Seq.{take_at, length-take-le}
 use Rattle.std.specs.Prelude.{Result, Ok, Err}
+use Rattle.std.specs.Simd.{first_chunks}
 use Rattle.definitions.specs.declared.answers.OuterCounts.{OuterCounts}
 use Rattle.definitions.specs.declared.answers.MinimumCounts.{MinimumCounts}
 use Rattle.definitions.specs.declared.answers.ComplementCounts.{ComplementCounts}
@@ -15,9 +16,9 @@ use Rattle.definitions.specs.declared.refusal.Refusal.{Refusal}
 use Rattle.definitions.specs.Refusal.{question_number, table_number}
 use Rattle.definitions.specs.declared.Output.{Output}
 use Rattle.definitions.specs.declared.Output.TheVariants.{Listing, Pages}
-use Rattle.definitions.specs.Limits.{max_union_rows, max_stored_rows}
+use Rattle.definitions.specs.Limits.{set_width, max_union_rows, max_stored_rows}
 use Rattle.definitions.specs.Word.{id_of}
-use Rattle.definitions.specs.Image.{column_words, image_of}
+use Rattle.definitions.specs.Image.{column_count, column_words, rows_in, image_of}
 use Rattle.definitions.specs.OuterUnion.{union_ids, union_columns, union_rows}
 use Rattle.definitions.specs.MinimumUnion.{filled, minimum_rows, pairs_tried}
 use Rattle.definitions.specs.ComplementUnion.{union_sets, fused_rows}
@@ -34,17 +35,18 @@ use Rattle.definitions.specs.Page.{all_pages}
 use Rattle.definitions.specs.Statements.{Member}
 use Rattle.definitions.specs.Claims.{Passed, ComplementDone}
 use Rattle.definitions.proofs.Lists.{map_ext}
-use Rattle.definitions.proofs.Minimum.{minimum_is}
 use Rattle.definitions.proofs.Counts.{fused_count, minimum_count, set_list-length}
-use Rattle.definitions.proofs.Unions.{rows_even, fused_even}
+use Rattle.definitions.proofs.Unions.{rows_even, minimum_even, fused_even}
 use Rattle.definitions.proofs.Outcomes.{outer_done, minimum_done, complement_done}
-use Rattle.definitions.proofs.Images.{accepted_rows}
+use Rattle.definitions.proofs.Images.{accepted_rows, rows_length}
 use Rattle.definitions.proofs.Reading.{positions_read, position_read, records_read, listed_length, listed_position}
 use Rattle.definitions.proofs.UnionColumns.{columns_ids, columns_few}
 use Rattle.definitions.proofs.TableWords.{Table, columns_front, rows_front, table_front, table_words}
 use Rattle.definitions.proofs.FusedPasses.{fused_passes}
-use Rattle.listing.specs.Lines.{HasRows, table_lines, union_lines, record_line, list_lines}
+use Rattle.lists.proofs.Flat.{rows_local}
+use Rattle.listing.specs.Lines.{HasRows, first_rows, table_lines, union_lines, record_line, records_lines, list_lines}
 use Rattle.fuse_body.specs.Parts.{IsDone, FusedAnswer, FusedWords}
+use Rattle.lists.proofs.Flat.{chunk_rows}
 
 -- ---- a table at the front of a buffer
 
@@ -52,7 +54,7 @@ use Rattle.fuse_body.specs.Parts.{IsDone, FusedAnswer, FusedWords}
 pub record LinesOf (columns : List ℕ) (rows : List (List ℕ)) (n : ℕ) (table : List ℕ) : Type 0 where
   pub within : HasRows table n
   pub words : column_words table ≡ columns
-  pub lines : table_lines table n ≡ row_lines rows
+  pub rows_are : first_rows table n ≡ rows
 
 holds : (columns : List ℕ) (rows : List (List ℕ)) (n : ℕ) (table rest : List ℕ) → Table columns rows → n ≡ length rows
     → table ≡ image_of columns rows ++ rest → LinesOf columns rows n table
@@ -62,8 +64,42 @@ holds columns rows n table rest t e w =
     (record {
       within = table_front columns rows t rest;
       words = columns_front columns rows t rest;
-      lines = ap row_lines (rows_front columns rows t rest);
+      rows_are = rows_front columns rows t rest;
     }))
+
+-- a title and the lines of the same rows
+pub table_as : {rows others : List (List ℕ)} {text : List ℕ} (title : List ℕ) → rows ≡ others → title ++ row_lines others ≡ text
+    → title ++ row_lines rows ≡ text
+table_as title e w = ap (λ (r : List (List ℕ)). title ++ row_lines r) e ∙ w
+
+-- ---- a set list at the front of a buffer
+
+-- the words behind the header, cut into records: their lines are those of the list
+module _ (list : List ℕ) (count : ℕ) (h : 1 + count * set_width ≤ length list) where
+  abbrev words : List ℕ
+  words = take (1 + count * set_width - 1) (drop 1 list)
+
+  within : count * set_width ≤ length (drop 1 list)
+  within = omega (arith, length-drop 1 list)
+
+  number : length words / set_width ≡ count
+  number =
+      let size : 1 + count * set_width - 1 ≡ count * set_width = omega arith in
+      rw size (omega (arith, length-take-le (count * set_width) (drop 1 list) within))
+
+  module _ (records : List (List ℕ)) (e : records ≡ first_chunks set_width (length words / set_width) words) where
+    records_are : records ≡ rows_in set_width count (drop 1 list)
+    records_are =
+        e ∙ chunk_rows set_width (length words / set_width) words
+        ∙ ap (λ (n : ℕ). rows_in set_width n words) number
+        ∙ ap (λ (k : ℕ). rows_in set_width count (take k (drop 1 list))) (omega arith)
+        ∙ rows_local set_width count (drop 1 list) within
+
+    records_number : length records ≡ count
+    records_number = ap length records_are ∙ rows_length set_width count (drop 1 list)
+
+    pub sets_as : {text : List ℕ} → sets_title count ++ list_lines list count ≡ text → sets_title (length records) ++ records_lines records ≡ text
+    sets_as w = ap₂ (λ (n : ℕ) (r : List (List ℕ)). sets_title n ++ records_lines r) records_number records_are ∙ w
 
 -- a done call has left its result
 left : (o : Outcome) (values image found table : List ℕ) → done values ≡ o → table ≡ afterwards o image found
@@ -77,15 +113,18 @@ module _ (a b : List ℕ) where
   abbrev T : List (List ℕ)
   T = union_rows a b
 
-  minimum_even : (r : List ℕ) → Member r (minimum_rows T) → length r ≡ length columns
-  minimum_even r h = rows_even a b r ((minimum_is T r).0 h).0
-
   -- ---- T
 
   -- the words of T: its lines are the first part of the listing
   pub record UnionWords (table : List ℕ) (rows cells : ℕ) : Type 0 where
     pub within : HasRows table rows
-    pub text : union_lines table rows cells ≡ union_text a b
+    pub text : union_lines (column_words table) (first_rows table rows) cells ≡ union_text a b
+
+  -- the same of words that are lent of the buffer: n columns, and the rows
+  pub union_lent : {table : List ℕ} {rows cells : ℕ} {t : List (List ℕ)} (n : ℕ) → UnionWords table rows cells → n ≡ column_count table
+      → t ≡ first_rows table rows → union_lines (take (1 + n - 1) (drop 1 table)) t cells ≡ union_text a b
+  union_lent {table} {cells = cells} n w e f =
+      ap₂ (λ (k : ℕ) (r : List (List ℕ)). union_lines (take k (drop 1 table)) r cells) (omega (arith, e)) f ∙ w.text
 
   pub union_words : (found table : List ℕ) {answer : Result OuterCounts Refusal} {counts : OuterCounts}
       → OuterPromise a b found (outer_says answer) table → answer ≡ Ok counts → UnionWords table counts.rows counts.filled
@@ -106,9 +145,9 @@ module _ (a b : List ℕ) where
       let h = holds columns T rows table _ t n (left _ values (outer_image a b) found table said call.writes) in
       record {
         within = h.within;
-        text = ap₂ (λ (ids lines : List ℕ). columns_line ids ++ (union_title rows cells ++ lines))
-            (ap (map id_of) h.words ∙ columns_ids a b) h.lines
-            ∙ ap₂ (λ (r f : ℕ). columns_line (union_ids a b) ++ (union_title r f ++ row_lines T)) n m;
+        text = ap₂ (λ (ids : List ℕ) (r : List (List ℕ)). columns_line ids ++ (union_title (length r) cells ++ row_lines r))
+            (ap (map id_of) h.words ∙ columns_ids a b) h.rows_are
+            ∙ ap (λ (f : ℕ). columns_line (union_ids a b) ++ (union_title (length T) f ++ row_lines T)) m;
       }
 
   -- ---- the minimum union
@@ -139,13 +178,13 @@ module _ (a b : List ℕ) where
       record {
         few_columns = columns_few a b d.accepted;
         few_rows = omega (arith, fits, minimum_count T);
-        even = minimum_even;
+        even = minimum_even a b;
       } in
       let h = holds columns M rows table _ t n
       (left _ values (minimum_image a b) found table said call.writes) in
       record {
         within = h.within;
-        text = ap (λ (lines : List ℕ). minimum_title rows cells pairs ++ lines) h.lines
+        text = ap (λ (r : List (List ℕ)). minimum_title rows cells pairs ++ row_lines r) h.rows_are
             ∙ ap₂ (λ (r f : ℕ). minimum_title r f pairs ++ row_lines M) n m
             ∙ ap (λ (k : ℕ). minimum_title (length M) (filled (flatten M)) k ++ row_lines M) p;
       }
@@ -165,7 +204,7 @@ module _ (a b : List ℕ) where
   done_minimum i number table e =
       let accepted = ((complement_done a b lent_table lent_sets i.values).0 i.outcome).accepted in
       let most = accepted_rows a b accepted in
-      let room = table_words columns (minimum_rows T) max_union_rows minimum_even (columns_few a b accepted)
+      let room = table_words columns (minimum_rows T) max_union_rows (minimum_even a b) (columns_few a b accepted)
       (omega (arith, most, minimum_count T)) in
       let is = (minimum_done a b lent_table _).1 (record { accepted = accepted; table_room = omega (arith, room); carries = refl }) in
       let z : ◌≡◌ {A = ℕ} 0 1 = cc in omega arith
@@ -208,16 +247,6 @@ module _ (a b : List ℕ) where
   pub listing_parts : listing a b ≡ union_text a b ++ (minimum_text a b ++ (sets_text a b ++ fused_text a b))
   unfolding listing
   listing_parts = refl
-
-  pub listing-length : length (listing a b) ≡ length (union_text a b) + (length (minimum_text a b) + (length (sets_text a b) + length (fused_text a b)))
-  listing-length =
-      omega (
-        arith,
-        ap length listing_parts,
-        length-append (union_text a b) (minimum_text a b ++ (sets_text a b ++ fused_text a b)),
-        length-append (minimum_text a b) (sets_text a b ++ fused_text a b),
-        length-append (sets_text a b) (fused_text a b),
-      )
 
 -- ---- what complement union answered
 
@@ -275,7 +304,7 @@ module _ {a b fused sets : List ℕ} {answer : Result ComplementCounts Refusal} 
         record {
           is_done = record { values = values; outcome = sym said };
           table_within = h.within;
-          table_text = ap (λ (lines : List ℕ). fused_title rows cells ++ lines) h.lines
+          table_text = ap (λ (r : List (List ℕ)). fused_title rows cells ++ row_lines r) h.rows_are
               ∙ ap₂ (λ (r f : ℕ). fused_title r f ++ row_lines F) n m;
           list_within = omega (arith, k, simp length-append at (ap length list), set_list-length (columns a b) (T a b));
           list_text = sets_text_lem a b values d sets _ count list k;

@@ -6,8 +6,8 @@ use native.Mathlib.Nat.{zero-add}
 use native.Mathlib.Omega.{arith}
 use lib.Dec.{leb}
 use lib.ListN.{length, take, drop}
-use lib.Seq.{take_all}
-use borrow.Author.Tests.{eq-eqb, ne_eqb, le-leb, lt-leb, leb-true, leb-false}
+use Rattle.std.proofs.lemmas.List.{take_min}
+use borrow.Author.Tests.{eq-eqb, ne_eqb, le-leb, lt-leb, leb-true}
 use Rattle.definitions.specs.declared.Output.{Output}
 use Rattle.definitions.specs.declared.Output.TheVariants.{Listing}
 use Rattle.std.specs.Prelude.{Option, Some, None}
@@ -48,10 +48,7 @@ read_fits output out board plant text e h = omega (arith, ap length e, read_outp
 -- ---- what is read of a file
 
 take_least : (l : List ℕ) (n m : ℕ) → n ≡ min (length l) m → take n l ≡ take m l
-take_least l n m e =
-    bool_cases (leb (length l) m)
-    (λ q. let h = leb-true (length l) m q in take_all n l (omega arith) ∙ sym (take_all m l h))
-    (λ q. let h = leb-false (length l) m q in let s : n ≡ m = omega arith in ap (λ (k : ℕ). take k l) s)
+take_least l n m e = let s : n ≡ min m (length l) = omega arith in ap (λ (k : ℕ). take k l) s ∙ take_min m l
 
 pub read_whole : (output : Output) (board plant : List ℕ) (m n : ℕ) → m ≡ min (length board) max_bytes → n ≡ min (length plant) max_bytes
     → read_output output (take m board) (take n plant) ≡ whole_output output board plant

@@ -35,6 +35,9 @@ pub const MAX_TEXT: usize = TITLE_BYTES
     + (2 * MAX_UNION_ROWS + MAX_SETS) * ROW_BYTES
     + MAX_SETS * SET_BYTES;
 
+// Each part puts its text over the front of the buffer and gives the length, as `pages::put_all` does, which takes no writer: so a writer
+// is made where lines are written, and not once for all.
+
 // The line of a ragged file, at the front of the buffer; its length.
 fn put_ragged(name: &[u8], out: &mut [u8]) -> usize
     requires { Fits out.old 0 (ragged_line name.now) }
@@ -89,6 +92,7 @@ fn put_answer(
 {
     match answer {
         Err(refusal) => put_refused(refusal, out),
+        // one of two outputs, by name: `OutputPromise` tells it
         Ok(counts) => match output {
             Output::Listing => put_lines(a, b, fused, sets, counts, out),
             Output::Pages => pages::put_all(&fused[..counts.words], out),

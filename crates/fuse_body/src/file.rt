@@ -11,6 +11,7 @@ pub(crate) fn decode(bytes: &[u8], words: &mut [u32]) -> usize
     ensures { Decoded bytes.now words.new result }
 {
     let (chunks, _) = bytes.as_chunks::<WORD_BYTES>();
+    // By index: std says nothing of a slice after `zip` of its `iter_mut`.
     for (i, chunk) in chunks.iter().enumerate() {
         words[i] = u32::from_le_bytes(*chunk);
     }

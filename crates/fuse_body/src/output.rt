@@ -9,7 +9,7 @@ use std::io::Read;
 use std::rt::Files;
 
 // Reads the start of a file, and answers how many bytes came. A file that is missing or can't be opened has none; where a read fails, the
-// file ends.
+// file ends. A path is bytes, as `run` and `run_output` are public and take any: one that is no text names no file.
 fn read_bytes(rt: &impl Files, path: &[u8], bytes: &mut [u8]) -> usize
     ensures within { result ≤ length bytes.new }
     ensures read { result ≡ length (take result bytes.new) }

@@ -32,10 +32,7 @@ const CASES: [(&str, &str); 15] = [
 ];
 
 fn main(rt: HostRuntime) -> io::Result<()> {
-    for (title, name) in CASES {
-        folder::run(&rt, title, name, |board, plant| {
-            fuse_body::run(&rt, board.as_bytes(), plant.as_bytes())
-        })?;
-    }
-    Ok(())
+    folder::run_all(&rt, &CASES, |board, plant| {
+        fuse_body::run(&rt, board.as_bytes(), plant.as_bytes())
+    })
 }

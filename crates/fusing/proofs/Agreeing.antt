@@ -1,14 +1,14 @@
 -- Two rows compared column by column. Assumes nothing.
-use mathlib.Core.Path.{◌≡◌, refl, sym, ◌∙◌, ap, ap₂}
-use mathlib.Core.Bool.{Bool, true, false, not, ◌&&◌, ◌||◌}
+use mathlib.Core.Path.{◌≡◌, sym, ◌∙◌, ap, ap₂}
+use mathlib.Core.Bool.{Bool, not, ◌&&◌, ◌||◌, and_assoc, and-true}
 use mathlib.Core.List.{List}
 use Prim.Native.Nat.{ℕ, ◌+◌, ◌<◌, ◌≤◌}
 use native.Mathlib.Omega.{arith}
 use lib.Dec.{eqb}
 use lib.ListN.{length, get_or, drop}
+use Rattle.std.proofs.lemmas.List.{drop_more, drop_all}
 use Rattle.definitions.specs.Word.{is_filled}
 use Rattle.definitions.specs.ComplementUnion.{agree}
-use Rattle.lists.proofs.Walks.{next, end}
 
 -- two cells of a column are equal, or one is empty
 abbrev pub cells_agree : ℕ → ℕ → Bool
@@ -23,18 +23,10 @@ module _ (s t : List ℕ) (first : Bool) (i : ℕ) (agreed : Bool) (same : lengt
   unfolding agree
   agree_turn more h e =
       ap (λ (b : Bool). b && agree (drop (i + 1) s) (drop (i + 1) t)) e
-      ∙ assoc agreed (cells_agree (get_or s i 0) (get_or t i 0)) (agree (drop (i + 1) s) (drop (i + 1) t))
-      ∙ ap (λ (b : Bool). agreed && b) (sym (ap₂ agree (next 0 s i h) (next 0 t i (omega arith))))
+      ∙ and_assoc agreed (cells_agree (get_or s i 0) (get_or t i 0)) (agree (drop (i + 1) s) (drop (i + 1) t))
+      ∙ ap (λ (b : Bool). agreed && b) (sym (ap₂ agree (drop_more s i 0 h) (drop_more t i 0 (omega arith))))
       ∙ inv
-    where
-      assoc : (x y z : Bool) → ((x && y) && z) ≡ (x && (y && z))
-      assoc true y z = refl
-      assoc false y z = refl
 
   pub agree_end : length s ≤ i → agreed ≡ (first && agree s t)
   unfolding agree
-  agree_end h = sym (ap (λ (u : List ℕ). agreed && agree u (drop i t)) (end s i h) ∙ last agreed) ∙ inv
-    where
-      last : (b : Bool) → (b && true) ≡ b
-      last true = refl
-      last false = refl
+  agree_end h = sym (ap (λ (u : List ℕ). agreed && agree u (drop i t)) (drop_all i s h) ∙ and-true agreed) ∙ inv

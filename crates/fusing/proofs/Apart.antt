@@ -1,7 +1,7 @@
 -- Complementing rows told by which columns are filled: some that counts in both, some in each alone. A missing cell counts as empty.
 -- Assumes nothing.
 use mathlib.Core.Path.{◌≡◌, refl, sym, ◌∙◌, ap}
-use mathlib.Core.Bool.{Bool, true, false, not, ◌&&◌, ◌||◌}
+use mathlib.Core.Bool.{Bool, true, false, not, ◌&&◌, ◌||◌, and-false}
 use mathlib.Core.List.{List, [], ◌∷◌}
 use Prim.Native.Nat.{ℕ}
 use lib.ListN.{length}
@@ -9,7 +9,8 @@ use lib.Dec.{eqb}
 use borrow.Author.Tests.{eqb-true}
 use Rattle.definitions.specs.Word.{is_filled}
 use Rattle.definitions.specs.ComplementUnion.{agree, share, counted_cells, complement}
-use Rattle.definitions.proofs.Bools.{bool_cases, clash, and_l, and_r}
+use Rattle.std.proofs.lemmas.Bool.{and_parts}
+use Rattle.definitions.proofs.Bools.{bool_cases, clash}
 use Rattle.definitions.proofs.Counted.{agree_counted}
 use Rattle.definitions.proofs.Patterns.{only, complement_pattern}
 
@@ -42,7 +43,7 @@ both-share [] t e = refl
 both-share (x ∷ s) [] e = refl
 both-share (x ∷ s) (y ∷ t) e =
     let a = eqb x y || not (is_filled x) || not (is_filled y) in
-    cell_share x y (both_in s t) (share s t) (and_l a (agree s t) e) (both-share s t (and_r a (agree s t) e))
+    cell_share x y (both_in s t) (share s t) (and_parts a (agree s t) e).0 (both-share s t (and_parts a (agree s t) e).1)
 
 -- the same of the cells of two rows that condition (3) counts: where the rows agree, these agree too
 share-agree : (words s t : List ℕ)
@@ -52,11 +53,7 @@ share-agree words s t =
     let v = counted_cells words t in
     bool_cases (agree s t)
     (λ e. ap (λ (b : Bool). b && agree s t) (sym (both-share u v (agree_counted words s t e))))
-    (λ e. rw e (none (share u v) ∙ sym (none (both_in u v))))
-  where
-    none : (b : Bool) → (b && false) ≡ false
-    none true = refl
-    none false = refl
+    (λ e. rw e (and-false (share u v) ∙ sym (and-false (both_in u v))))
 
 -- equally long rows complement each other exactly if some column is filled in each alone, some that counts in both, and they agree
 pub complement-filled : (words s t : List ℕ) → length s ≡ length t

@@ -1,21 +1,19 @@
 -- The rows that cross a row, column by column: what the words hold of each row. Assumes nothing.
 use mathlib.Core.Path.{◌≡◌, refl, sym, ◌∙◌, ap, ap₂, subst}
-use mathlib.Core.Bool.{Bool, true, false, cond, not, ◌&&◌, ◌||◌}
+use mathlib.Core.Bool.{Bool, true, false, cond, not, ◌&&◌, ◌||◌, or-false}
 use mathlib.Core.List.{List, []}
-use Prim.Native.Nat.{ℕ, ◌+◌, ◌-◌, ◌*◌, ◌^◌, ◌<◌, ◌≤◌}
+use Prim.Native.Nat.{ℕ, ◌+◌, ◌-◌, ◌^◌, ◌<◌, ◌≤◌}
 use native.Mathlib.Omega.{arith}
 use lib.Bits.{bit_and, bit_or, and_le_l}
 use lib.ListN.{length, get_or, drop, set as replace}
 use lib.Seq.{get_or-set_same, get_or-set_other}
 use borrow.Author.Count.{below_more}
-use Rattle.definitions.specs.Limits.{max_union_rows}
-use Rattle.definitions.specs.Image.{rows_in}
+use Rattle.std.proofs.lemmas.List.{drop_more, drop_all}
 use Rattle.definitions.specs.Word.{is_filled}
 use Rattle.definitions.specs.ComplementUnion.{agree, counted_cells, complement}
 use Rattle.definitions.proofs.Patterns.{only}
 use Rattle.definitions.specs.Claims.{counts_column}
 use Rattle.definitions.proofs.Counted.{counted_at, counted_length}
-use Rattle.lists.proofs.Walks.{next, end}
 use Rattle.definitions.proofs.Images.{rows_length}
 use Rattle.lists.proofs.Flat.{rows_at_lem}
 use Rattle.bitsets.specs.Bits.{word_bits, has, both, rows_below}
@@ -23,7 +21,8 @@ use Rattle.bitsets.proofs.Bits.{has_both, has-or, has_none, below_in}
 use Rattle.patterns.specs.Columns.{blank_of, filled_in, ColumnsOf}
 use Rattle.patterns.proofs.FilledRows.{filled-has, has_blank, blank_fits}
 use Rattle.patterns.proofs.Parts.{row_length}
-use Rattle.rows.specs.Indices.{row_at}
+use Rattle.fusing.specs.declared.union_rows.UnionRows.{UnionRows}
+use Rattle.fusing.specs.UnionRows.{rows_of}
 use Rattle.fusing.specs.Graph.{CountedColumns, Seen, CrossingOf, Crossing}
 use Rattle.fusing.proofs.Words.{has_lacked}
 use Rattle.fusing.proofs.Apart.{both_in, complement-filled}
@@ -58,10 +57,6 @@ second_case true true true b = refl
 second_case true true false b = refl
 second_case true false true b = refl
 second_case true false false b = refl
-
-none : (b : Bool) → (b || false) ≡ b
-none true = refl
-none false = refl
 
 told_case : (b x y g : Bool) → (x && (y && (b && g))) ≡ (((b && x) && y) && g)
 told_case true true true g = refl
@@ -123,7 +118,7 @@ module _ (words s t : List ℕ) (k : ℕ) (same : length s ≡ length t) (wide :
         ∙ share_case (has shared k) (counts_column words i) (is_filled (get_or s i 0)) (is_filled (get_or t i 0)) rest
         ∙ ap₂ (λ (a b : Bool). has shared k || ((a && b) || rest)) (sym x) (sym y)
         ∙ ap (λ (b : Bool). has shared k || b)
-        (sym (ap₂ both_in (next 0 u i (omega (arith, u_length))) (next 0 v i (omega (arith, v_length)))))
+        (sym (ap₂ both_in (drop_more u i 0 (omega (arith, u_length))) (drop_more v i 0 (omega (arith, v_length)))))
         ∙ p.shares
 
     first_more : (not (has (bit_and above (bit_or filled empty)) k) || only (drop (i + 1) s) (drop (i + 1) t)) ≡ only s t
@@ -134,7 +129,7 @@ module _ (words s t : List ℕ) (k : ℕ) (same : length s ≡ length t) (wide :
         (has_both above (bit_or filled empty) k
         ∙ ap (λ (b : Bool). has above k && b) (has-or filled empty k ∙ ap₂ (λ (a b : Bool). a || b) f e))
         ∙ first_case (has above k) (is_filled (get_or s i 0)) (is_filled (get_or t i 0)) rest
-        ∙ ap (λ (b : Bool). not (has above k) || b) (sym (ap₂ only (next 0 s i more) (next 0 t i (omega arith))))
+        ∙ ap (λ (b : Bool). not (has above k) || b) (sym (ap₂ only (drop_more s i 0 more) (drop_more t i 0 (omega arith))))
         ∙ p.first
 
     second_more : (not (has (bit_and within (2 ^ word_bits - 1 - bit_and filled empty)) k) || only (drop (i + 1) t) (drop (i + 1) s)) ≡ only t s
@@ -147,7 +142,7 @@ module _ (words s t : List ℕ) (k : ℕ) (same : length s ≡ length t) (wide :
         ∙ ap (λ (b : Bool). has within k && b)
         (has_lacked word_bits (bit_and filled empty) k fit small ∙ ap not (has_both filled empty k ∙ ap₂ (λ (a b : Bool). a && b) f e)))
         ∙ second_case (has within k) (is_filled (get_or s i 0)) (is_filled (get_or t i 0)) rest
-        ∙ ap (λ (b : Bool). not (has within k) || b) (sym (ap₂ only (next 0 t i (omega arith)) (next 0 s i more)))
+        ∙ ap (λ (b : Bool). not (has within k) || b) (sym (ap₂ only (drop_more t i 0 (omega arith)) (drop_more s i 0 more)))
         ∙ p.second
 
     pub passed_more : Passed words s t k (i + 1) (bit_or shared (bit_and counted (2 ^ word_bits - 1 - empty))) (bit_and above (bit_or filled empty))
@@ -159,13 +154,13 @@ module _ (words s t : List ℕ) (k : ℕ) (same : length s ≡ length t) (wide :
       → complement words s t ≡ (has (bit_and (bit_and shared (2 ^ word_bits - 1 - above)) (2 ^ word_bits - 1 - within)) k && agree s t)
   unfolding both both_in only
   passed_told i shared above within all fa fw p =
-      let es : drop i s ≡ [] = end s i all in
-      let et : drop i t ≡ [] = end t i (omega arith) in
-      let eu : drop i u ≡ [] = end u i (omega (arith, u_length)) in
-      let ev : drop i v ≡ [] = end v i (omega (arith, v_length)) in
-      let sh : has shared k ≡ both_in u v = sym (ap₂ (λ (x y : List ℕ). has shared k || both_in x y) eu ev ∙ none (has shared k)) ∙ p.shares in
-      let fi : not (has above k) ≡ only s t = sym (ap₂ (λ (x y : List ℕ). not (has above k) || only x y) es et ∙ none (not (has above k))) ∙ p.first in
-      let se : not (has within k) ≡ only t s = sym (ap₂ (λ (x y : List ℕ). not (has within k) || only x y) et es ∙ none (not (has within k))) ∙ p.second in
+      let es : drop i s ≡ [] = drop_all i s all in
+      let et : drop i t ≡ [] = drop_all i t (omega arith) in
+      let eu : drop i u ≡ [] = drop_all i u (omega (arith, u_length)) in
+      let ev : drop i v ≡ [] = drop_all i v (omega (arith, v_length)) in
+      let sh : has shared k ≡ both_in u v = sym (ap₂ (λ (x y : List ℕ). has shared k || both_in x y) eu ev ∙ or-false (has shared k)) ∙ p.shares in
+      let fi : not (has above k) ≡ only s t = sym (ap₂ (λ (x y : List ℕ). not (has above k) || only x y) es et ∙ or-false (not (has above k))) ∙ p.first in
+      let se : not (has within k) ≡ only t s = sym (ap₂ (λ (x y : List ℕ). not (has within k) || only x y) et es ∙ or-false (not (has within k))) ∙ p.second in
       let two : has (bit_and shared (2 ^ word_bits - 1 - above)) k ≡ (both_in u v && only s t) =
       has_both shared (2 ^ word_bits - 1 - above) k ∙ ap₂ (λ (a b : Bool). a && b) sh (has_lacked word_bits above k fa small ∙ fi) in
       let three : has (bit_and (bit_and shared (2 ^ word_bits - 1 - above)) (2 ^ word_bits - 1 - within)) k ≡ ((both_in u v && only s t) && only t s) =
@@ -221,15 +216,18 @@ module _ (row columns counted : List ℕ) where
 
 -- ---- the rows one after the other, with a cell for each column word
 
-pub rows_seen : (words : List ℕ) (n : ℕ) (w columns counted : List ℕ) → n ≤ max_union_rows → n * length words ≤ length w
-    → ColumnsOf (rows_in (length words) n w) (length words) columns → CountedColumns words columns counted
-    → Seen words (rows_in (length words) n w) columns counted
-rows_seen words n w columns counted few fits o m =
-    let c = length words in
+pub rows_seen : (t : UnionRows) (counted : List ℕ) → CountedColumns t.column_words.now t.columns.now counted
+    → Seen t.column_words.now (rows_of t) t.columns.now counted
+rows_seen t counted m =
+    let c = t.rows.width in
+    let n = t.rows.len in
+    let w = t.rows.cells.now in
     record {
-      few = omega (arith, rows_length c n w);
-      wide = λ k h. let l : k < n = omega (arith, rows_length c n w) in ap length (rows_at_lem c n k w l) ∙ row_length c n k w fits l;
-      filled = o;
+      few = omega (arith, t.few, rows_length c n w);
+      wide = λ k h.
+          let l : k < n = omega (arith, rows_length c n w) in
+          ap length (rows_at_lem c n k w l) ∙ row_length c n k w t.rows.fits l ∙ t.one_cell_each;
+      filled = subst (λ (k : ℕ). ColumnsOf (rows_of t) k t.columns.now) t.one_cell_each t.filled;
       counting = m;
     }
 
@@ -237,20 +235,13 @@ rows_seen words n w columns counted few fits o m =
 abbrev pub CrossingTo : List ℕ → List (List ℕ) → List ℕ → ℕ → Type 0
 CrossingTo words rows neighbours j = (i : ℕ) → i < j → CrossingOf words rows (get_or rows i []) (get_or neighbours i 0)
 
-module _ (words : List ℕ) (n j : ℕ) (w columns counted neighbours row : List ℕ) (set : ℕ) where
-  abbrev c : ℕ
-  c = length words
-
-  abbrev rows : List (List ℕ)
-  rows = rows_in c n w
-
-  -- n rows stand in w, and the row j is the next
-  pub crossing_turn : Seen words rows columns counted → n * c ≤ length w → j < n → j < length neighbours → row ≡ row_at c w j
+module _ (words : List ℕ) (rows : List (List ℕ)) (j : ℕ) (columns counted neighbours row : List ℕ) (set : ℕ) where
+  -- the row j is the next
+  pub crossing_turn : Seen words rows columns counted → j < length rows → j < length neighbours → row ≡ get_or rows j []
       → Crossing row columns counted set → CrossingTo words rows neighbours j → CrossingTo words rows (replace neighbours j set) (j + 1)
-  crossing_turn seen fits more room e f inv =
+  crossing_turn seen more room e f inv =
       let own : CrossingOf words rows (get_or rows j []) set =
-      subst (λ (r : List ℕ). CrossingOf words rows r set) (e ∙ sym (rows_at_lem c n j w more))
-      (f words rows (sym (ap length e ∙ row_length c n j w fits more)) seen) in
+      subst (λ (r : List ℕ). CrossingOf words rows r set) e (f words rows (sym (ap length e ∙ seen.wide j more)) seen) in
       below_more (λ (i : ℕ). CrossingOf words rows (get_or rows i []) (get_or (replace neighbours j set) i 0)) j
       (λ i h. subst (CrossingOf words rows (get_or rows i [])) (sym (get_or-set_other neighbours j i set 0 (λ q. omega arith))) (inv i h))
       (subst (CrossingOf words rows (get_or rows j [])) (sym (get_or-set_same neighbours j set 0 room)) own)

@@ -2,9 +2,8 @@
 use mathlib.Core.Path.{◌≡◌, refl, sym, ◌∙◌, ap, ap₂, subst}
 use mathlib.Core.Bool.{Bool}
 use mathlib.Core.List.{List, [], ◌∷◌, ◌++◌, map}
-use Prim.Native.Nat.{ℕ, ◌*◌, ◌≤◌, ◌<◌}
+use Prim.Native.Nat.{ℕ, ◌≤◌, ◌<◌}
 use Rattle.std.proofs.Common.{Option, Some, None}
-use native.Mathlib.Omega.{arith}
 use lib.ListN.{length, take, length-map}
 use lib.Seq.{take_at}
 use Rattle.definitions.proofs.Images.{rows_length}
@@ -17,7 +16,6 @@ use Rattle.definitions.specs.ComplementUnion.{same_row, joined, maximal_sets, un
 use Rattle.definitions.specs.SetList.{bits, fused_position}
 use Rattle.cliques.specs.Graph.{adjacent, Graph, FoundSets}
 use Rattle.rows.specs.Indices.{rows_at, Ordered}
-use Rattle.rows.proofs.Indices.{below_fit}
 use Rattle.fusing.specs.Fused.{SetsOf, joined_rows, FusedOf}
 use Rattle.fusing.specs.Graph.{GraphOf}
 use Rattle.fusing.specs.Positions.{positions_in}
@@ -25,19 +23,23 @@ use Rattle.fusing.proofs.Neighbours.{graph_sets}
 
 -- ---- the sets found in the graph of T
 
-pub graph_for : (words : List ℕ) (c n : ℕ) (cells neighbours : List ℕ) → GraphOf words (rows_in c n cells) neighbours → Graph neighbours n
-graph_for words c n cells neighbours g = subst (Graph neighbours) (rows_length c n cells) g.graph
-
-module _ (words : List ℕ) (c n : ℕ) (cells neighbours list : List ℕ) (g : GraphOf words (rows_in c n cells) neighbours) where
+module _ (words : List ℕ) (c n : ℕ) (cells neighbours : List ℕ) (size : length neighbours ≡ n) (g : GraphOf words (rows_in c n cells) neighbours) where
   abbrev T : List (List ℕ)
   T = rows_in c n cells
 
-  sets_are : maximal_sets (adjacent neighbours) n ≡ union_sets words T
-  sets_are = ap (maximal_sets (adjacent neighbours)) (sym (rows_length c n cells)) ∙ graph_sets words T neighbours g
+  -- a word for each row of T
+  rows_are : length T ≡ length neighbours
+  rows_are = rows_length c n cells ∙ sym size
 
-  pub sets_of : (r : Option ℕ) → FoundSets neighbours n list r → SetsOf words T list r
-  sets_of None found = subst (λ (l : List (List Bool)). max_sets < length l) sets_are found
-  sets_of (Some r) found = (found.0, found.1 ∙ ap length sets_are, found.2 ∙ ap (map bits) sets_are)
+  pub graph_for : Graph neighbours (length neighbours)
+  graph_for = subst (Graph neighbours) rows_are g.graph
+
+  sets_are : maximal_sets (adjacent neighbours) (length neighbours) ≡ union_sets words T
+  sets_are = ap (maximal_sets (adjacent neighbours)) (sym rows_are) ∙ graph_sets words T neighbours g
+
+  pub sets_of : (list : List ℕ) (r : Option ℕ) → FoundSets neighbours (length neighbours) list r → SetsOf words T list r
+  sets_of list None found = subst (λ (l : List (List Bool)). max_sets < length l) sets_are found
+  sets_of list (Some r) found = (found.0, found.1 ∙ ap length sets_are, found.2 ∙ ap (map bits) sets_are)
 
 -- ---- the fused table: m indices name the distinct joined rows in ascending order
 
@@ -69,12 +71,12 @@ module _ (words : List ℕ) (T : List (List ℕ)) (c count m : ℕ) (cells order
       (length-map (rows_in c count cells) (λ r. find_index (same_row r) named) ∙ rows_length c count cells)
       ∙ positions_fused
 
-  pub fused_of : (positions rest : List ℕ) → count * c ≤ length cells → m ≤ count → m ≤ length order
+  pub fused_of : (positions rest : List ℕ) → m ≤ count → m ≤ length order
       → positions ≡ positions_in named (rows_in c count cells) ++ rest → FusedOf words T c count cells order positions m
-  fused_of positions rest fits fewer within e = record {
+  fused_of positions rest fewer within e = record {
     fewer = fewer;
     within = within;
-    fit = below_fit c count (length cells) (take m order) fits o.below;
+    below = o.below;
     fused = ordered_fused;
     placed = positions_known positions rest e;
   }

@@ -1,6 +1,6 @@
 -- The rows of a column as groups of equal cells: a leader sought among those of before, and each row joined to its group. Assumes nothing.
 use mathlib.Core.Path.{◌≡◌, refl, sym, ◌∙◌, ap, ap₂, subst}
-use mathlib.Core.Bool.{Bool, true, false, ◌&&◌, ◌||◌}
+use mathlib.Core.Bool.{Bool, true, false, ◌&&◌, ◌||◌, and-false, or-false, or-true}
 use mathlib.Core.Logic.{◌⊎◌, inl, inr, ⊎_elim}
 use mathlib.Core.List.{List}
 use Prim.Native.Nat.{ℕ, ◌*◌, ◌%◌, ◌^◌, ◌<◌}
@@ -10,13 +10,14 @@ use lib.Dec.{eqb}
 use lib.ListN.{length, get_or, set, length-set, replicate, get_or-replicate}
 use lib.Seq.{get_or-set_same, get_or-set_other}
 use borrow.Author.Tests.{eqb-true, eqb-false, eq-eqb, ne_eqb}
-use Rattle.definitions.proofs.Bools.{bool_cases, clash, not_so, or_cases, or_l, or_r, and_l, and_r}
+use Rattle.std.proofs.lemmas.Bool.{and_parts, false_from_ne_true, or_cases, or_left, or_right}
+use Rattle.definitions.proofs.Bools.{bool_cases, clash}
 use Rattle.bitsets.specs.Bits.{word_bits, has, with_row, Inside, without_lowest}
 use Rattle.bitsets.proofs.Bits.{bit_at, Lowest, has_none, has_with, rest_in, rest_of}
 use Rattle.std.specs.Prelude.{Some, None}
-use Rattle.fusing.specs.Members.{Next}
+use Rattle.bitsets.specs.Members.{Next}
 use Rattle.fusing.specs.Groups.{bucket_count, LeaderOf, Groups}
-use Rattle.fusing.proofs.Rests.{lowest_of, passed, passed_in, passed_none, passed_all, among_more, passed_next, passed_else, passed_more, passed_other, passed_old, passed_cases}
+use Rattle.bitsets.proofs.Rests.{lowest_of, passed, passed_in, passed_none, passed_all, among_more, passed_next, passed_else, passed_more, passed_other, passed_old, passed_cases}
 
 -- ---- a leader is sought
 
@@ -26,9 +27,6 @@ pub record Seeking (cell : ℕ → ℕ) (x rows rest : ℕ) : Type 0 where
   pub left : (k : ℕ) → has rows k ≡ true → cell k ≡ x → has rest k ≡ true
 
 module _ (cell : ℕ → ℕ) (x rows : ℕ) where
-  pub seek_start : Seeking cell x rows rows
-  seek_start = record { among = λ k h. h; left = λ k h e. h }
-
   pub seek_next : {rest k left : ℕ} → Next rest k left → Seeking cell x rows rest → has rows k ≡ true
   seek_next {rest} {k} next inv = inv.among k (lowest_of next).there
 
@@ -85,29 +83,13 @@ group_start cell filled leaders equal =
 
 -- where the cell of a group is another, the next row changes nothing in it
 group_else : (was now next same : Bool) → now ≡ (was || next) → (next ≡ true → same ≡ false) → (was && same) ≡ (now && same)
-group_else was now true same e f = ap (λ (b : Bool). was && b) (f refl) ∙ none was ∙ sym (ap (λ (b : Bool). now && b) (f refl) ∙ none now)
-  where
-    none : (b : Bool) → (b && false) ≡ false
-    none true = refl
-    none false = refl
-group_else was now false same e f = ap (λ (b : Bool). b && same) (sym (e ∙ last was))
-  where
-    last : (b : Bool) → (b || false) ≡ b
-    last true = refl
-    last false = refl
+group_else was now true same e f = ap (λ (b : Bool). was && b) (f refl) ∙ and-false was ∙ sym (ap (λ (b : Bool). now && b) (f refl) ∙ and-false now)
+group_else was now false same e f = ap (λ (b : Bool). b && same) (sym (e ∙ or-false was))
 
 -- where it is the same, the next row is joined
 group_with : (was now next same : Bool) → now ≡ (was || next) → (next ≡ true → same ≡ true) → ((was && same) || next) ≡ (now && same)
-group_with was now true same e f = yes (was && same) ∙ sym (ap₂ (λ (a b : Bool). a && b) (e ∙ yes was) (f refl))
-  where
-    yes : (b : Bool) → (b || true) ≡ true
-    yes true = refl
-    yes false = refl
-group_with was now false same e f = last (was && same) ∙ ap (λ (b : Bool). b && same) (sym (e ∙ last was))
-  where
-    last : (b : Bool) → (b || false) ≡ b
-    last true = refl
-    last false = refl
+group_with was now true same e f = or-true (was && same) ∙ sym (ap₂ (λ (a b : Bool). a && b) (e ∙ or-true was) (f refl))
+group_with was now false same e f = or-false (was && same) ∙ ap (λ (b : Bool). b && same) (sym (e ∙ or-false was))
 
 -- row j is next; a leader of before is sought for it
 module _ {cell : ℕ → ℕ} {filled rest : ℕ} {buckets leaders equal : List ℕ} (inv : Grouping cell filled rest buckets leaders equal) {j left : ℕ} (next : Next rest j left) where
@@ -185,11 +167,11 @@ module _ {cell : ℕ → ℕ} {filled rest : ℕ} {buckets leaders equal : List 
           let q : d ≡ digit = eqb-true d digit e in
           ap (λ (x : ℕ). has (get_or buckets' x 0) k) q
           ∙ bucket_here k
-          ∙ or_l (has (get_or buckets digit 0) k) (eqb k j) (ap (λ (x : ℕ). has (get_or buckets x 0) k) (sym q) ∙ m))
+          ∙ or_left (has (get_or buckets digit 0) k) (eqb k j) (ap (λ (x : ℕ). has (get_or buckets x 0) k) (sym q) ∙ m))
           (λ e. bucket_else d k (eqb-false d digit e) ∙ m)
 
       bucket_own : leads cell buckets' j ≡ true
-      bucket_own = bucket_here j ∙ or_r (has (get_or buckets digit 0) j) (eqb j j) (eq-eqb j j refl)
+      bucket_own = bucket_here j ∙ or_right (has (get_or buckets digit 0) j) (eqb j j) (eq-eqb j j refl)
 
       group_old : (k i : ℕ) → leads cell buckets k ≡ true → has (get_or equal' k 0) i ≡ (passed filled (without_lowest rest) i && eqb (cell k) (cell i))
       group_old k i m =
@@ -209,11 +191,11 @@ module _ {cell : ℕ → ℕ} {filled rest : ℕ} {buckets leaders equal : List 
           e ∙ sym (ap₂ (λ (a b : Bool). a && b) (ap (passed filled (without_lowest rest)) q ∙ passed_next filled rest j inv.among low)
           (eq-eqb (cell j) (cell i) (ap cell (sym q)))))
           (λ e.
-          e ∙ sym (not_so (passed filled (without_lowest rest) i && eqb (cell j) (cell i))
+          e ∙ sym (false_from_ne_true (passed filled (without_lowest rest) i && eqb (cell j) (cell i))
           (λ h.
           other_cell i
-          (sym (passed_else filled rest j inv.among low i (eqb-false i j e)) ∙ and_l (passed filled (without_lowest rest) i) (eqb (cell j) (cell i)) h)
-          (sym (eqb-true (cell j) (cell i) (and_r (passed filled (without_lowest rest) i) (eqb (cell j) (cell i)) h))))))
+          (sym (passed_else filled rest j inv.among low i (eqb-false i j e)) ∙ (and_parts (passed filled (without_lowest rest) i) (eqb (cell j) (cell i)) h).0)
+          (sym (eqb-true (cell j) (cell i) (and_parts (passed filled (without_lowest rest) i) (eqb (cell j) (cell i)) h).1)))))
 
       new_group : Grouping cell filled left buckets' (set leaders j j) equal'
       new_group =

@@ -1,6 +1,5 @@
 -- Laws of the graph of T, of joined rows and of the fused table.
 pub mod Words
-pub mod Rests
 pub mod FilledRows
 pub mod HeldRows
 pub mod Grouping

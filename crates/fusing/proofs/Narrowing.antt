@@ -22,10 +22,10 @@ use Rattle.patterns.specs.Columns.{ColumnsOf}
 use Rattle.patterns.proofs.FilledRows.{filled-has}
 use Rattle.patterns.proofs.Parts.{row_length}
 use Rattle.fusing.specs.Groups.{cell_at, Groups}
-use Rattle.fusing.specs.Members.{Next}
+use Rattle.bitsets.specs.Members.{Next}
 use Rattle.fusing.specs.Graph.{NarrowedBy, Narrowed}
 use Rattle.fusing.proofs.Words.{has_lacked}
-use Rattle.fusing.proofs.Rests.{lowest_of, passed, passed_none, passed_all, among_more, next_not, passed_next, passed_else, passed_cases}
+use Rattle.bitsets.proofs.Rests.{lowest_of, passed, passed_all, among_more, next_not, passed_next, passed_else, passed_cases}
 use Rattle.fusing.proofs.FilledRows.{cell_at_lem}
 use Rattle.fusing.proofs.Agreeing.{cells_agree, AgreesFrom, agree_turn, agree_end}
 
@@ -42,13 +42,6 @@ pub record Narrowing (filled : ℕ) (leaders equal found : List ℕ) (rest : ℕ
   pub left : (j : ℕ) → passed filled rest j ≡ false → get_or now j 0 ≡ get_or found j 0
 
 module _ (filled : ℕ) (leaders equal found : List ℕ) where
-  pub narrow_none : Narrowing filled leaders equal found filled found
-  narrow_none = record {
-    among = λ k h. h;
-    done = λ j h. absurd (clash h (passed_none filled j));
-    left = λ j h. refl;
-  }
-
   pub narrow_turn : {rest j left : ℕ} {now : List ℕ} → Next rest j left → j < length now → Narrowing filled leaders equal found rest now
       → Narrowing filled leaders equal found left (set now j (kept filled leaders equal j (get_or now j 0)))
   narrow_turn {rest} {j} {left} {now} next within inv =
@@ -96,9 +89,6 @@ module _ (filled : ℕ) (leaders equal found : List ℕ) where
 abbrev pub NarrowedTo : List (List ℕ) → List ℕ → ℕ → List ℕ → Type 0
 NarrowedTo rows found c now =
     (j k : ℕ) → j < length rows → k < length rows → AgreesFrom (get_or rows j []) (get_or rows k []) (adjacent found j k) c (adjacent now j k)
-
-pub narrowed_none : (rows : List (List ℕ)) (found : List ℕ) → NarrowedTo rows found 0 found
-narrowed_none rows found j k h g = refl
 
 -- a row that is filled in a column agrees there with its group and with the rows that are empty
 beside : (e g : Bool) → ((g && e) || not g) ≡ (e || false || not g)

@@ -1,6 +1,5 @@
 -- The joined row of a set, a step a column: a member that is filled in a column has the number there. Assumes nothing.
 use mathlib.Core.Path.{◌≡◌, refl, sym, ◌∙◌, ap}
-use mathlib.Core.Logic.{⊎_elim}
 use mathlib.Core.Bool.{Bool, true, ◌&&◌}
 use mathlib.Core.List.{List, [], ◌∷◌}
 use Prim.Native.Nat.{ℕ, zero, suc, ◌+◌, ◌*◌, ◌^◌, ◌<◌, ◌≤◌}
@@ -19,11 +18,12 @@ use Rattle.definitions.specs.Image.{rows_in}
 use Rattle.definitions.specs.ComplementUnion.{complement_at, members, joined, union_sets}
 use Rattle.definitions.specs.SetList.{bits}
 use Rattle.definitions.specs.Statements.{Member}
-use Rattle.definitions.specs.Claims.{Filled, CellAgrees, Holds, Complementing}
-use Rattle.definitions.proofs.Bools.{bool_cases, and_l, and_r}
+use Rattle.definitions.specs.Claims.{Filled, Holds, Complementing}
+use Rattle.std.proofs.lemmas.Bool.{and_parts}
+use Rattle.definitions.proofs.Bools.{bool_cases}
 use Rattle.definitions.proofs.Rows.{filled_cell, empty_cell, agree_at}
 use Rattle.definitions.proofs.Sets.{holds_within, listed_is}
-use Rattle.definitions.proofs.Joined.{members_are, members-agree, joined_some, joined_empty, joined_length}
+use Rattle.definitions.proofs.Joined.{members_are, members-agree, filled-agree, joined_some, joined_empty, joined_length}
 use Rattle.lists.proofs.Flat.{rows_at_lem}
 use Rattle.bitsets.specs.Bits.{word_bits, has, both, lowest}
 use Rattle.bitsets.proofs.Bits.{Lowest, has_both, has_none, has-bits, lowest_one, trailing_lowest, is_lowest}
@@ -98,11 +98,8 @@ module _ (words : List ℕ) (rows : List (List ℕ)) (s : List Bool) (comp : Com
       (λ e. absurd (f ((joined_empty rows s column).0 (eqb-true (get_or (joined rows s) column 0) 0 e) (get_or rows k []) here)))
       (λ e.
       let m = joined_some rows s column (eqb-false (get_or (joined rows s) column 0) 0 e) in
-      m.2 ∙ agreed (get_or m.0 column 0) (cell k) (λ z. eqb-false (get_or (joined rows s) column 0) 0 e (m.2 ∙ z)) f
+      m.2 ∙ filled-agree (get_or m.0 column 0) (cell k) (λ z. eqb-false (get_or (joined rows s) column 0) 0 e (m.2 ∙ z)) f
       (agree_at m.0 (get_or rows k []) (members-agree words rows s comp m.0 (get_or rows k []) m.1 here) column))
-    where
-      agreed : (x y : ℕ) → Filled x → Filled y → CellAgrees x y → x ≡ y
-      agreed x y f g a = ⊎_elim (λ e. e) (λ b. ⊎_elim (λ e. absurd (f e)) (λ e. absurd (g e)) b) a
 
   pub no-member_cell : ((k : ℕ) → Holds s k → cell k ≡ 0) → get_or (joined rows s) column 0 ≡ 0
   no-member_cell f =
@@ -145,9 +142,9 @@ module _ (words : List ℕ) (c n : ℕ) (w columns : List ℕ) (fits : n * c ≤
     first_held some =
         let k = lowest held in
         let there : has held k ≡ true = (is_lowest held some).there in
-        let m : Holds s k = sym (has-bits s k) ∙ and_l (has (bits s) k) (has (filled_in rows i) k) (sym (has_both (bits s) (filled_in rows i) k) ∙ there) in
+        let m : Holds s k = sym (has-bits s k) ∙ (and_parts (has (bits s) k) (has (filled_in rows i) k) (sym (has_both (bits s) (filled_in rows i) k) ∙ there)).0 in
         let l : k < length rows = omega (arith, holds_within s k m, comp.size) in
-        let f : is_filled (get_or (get_or rows k []) i 0) ≡ true = and_r (has (bits s) k) (is_filled (get_or (get_or rows k []) i 0)) (sym (held_has k l) ∙ there) in
+        let f : is_filled (get_or (get_or rows k []) i 0) ≡ true = (and_parts (has (bits s) k) (is_filled (get_or (get_or rows k []) i 0)) (sym (held_has k l) ∙ there)).1 in
         member_cell words rows s comp i k m (filled_cell (get_or (get_or rows k []) i 0) f)
         ∙ ap (λ (r : List ℕ). get_or r i 0) (rows_at_lem c n k w (omega (arith, rows_length c n w)))
         ∙ cell_at_lem c k i w h

@@ -1,62 +1,33 @@
 -- The positions of rows among the distinct ones: those that the indices tell, what the search for one is asked and gives, and all of them one
 -- after the other. Assumes nothing.
-use mathlib.Core.Path.{◌≡◌, refl, sym, ◌∙◌, ap, subst}
+use mathlib.Core.Path.{◌≡◌, sym, ◌∙◌, ap, subst}
 use mathlib.Core.List.{List, []}
-use Prim.Native.Nat.{ℕ, ◌+◌, ◌-◌, ◌*◌, ◌<◌, ◌≤◌}
+use Prim.Native.Nat.{ℕ, ◌+◌, ◌*◌, ◌<◌, ◌≤◌}
 use native.Mathlib.Omega.{arith}
-use lib.Dec.{eqb}
-use lib.ListN.{length, get_or, set, take, drop, length-set, length-map, get_or-map, replicate, get_or-replicate}
-use lib.Seq.{take_all, get_or-set_same, get_or-set_other, ext_get_or}
+use lib.ListN.{length, get_or, set, length-set, length-map, get_or-map}
+use lib.Seq.{get_or-set_same, get_or-set_other, ext_get_or}
 use borrow.Author.Count.{below_more}
-use borrow.Author.Tests.{eqb-true, eqb-false}
+use Rattle.std.proofs.lemmas.List.{get_or-map as map_at}
 use Rattle.definitions.proofs.Images.{rows_length}
 use Rattle.definitions.specs.Image.{rows_in}
 use Rattle.definitions.specs.Lists.{find_index}
 use Rattle.definitions.specs.ComplementUnion.{same_row}
 use Rattle.definitions.specs.Statements.{Member}
-use Rattle.definitions.proofs.Bools.{bool_cases}
-use Rattle.definitions.proofs.Lists.{map_at, find_index-strict}
+use Rattle.definitions.proofs.Lists.{find_index-strict}
 use Rattle.definitions.proofs.Orders.{rows}
 use Rattle.definitions.proofs.Rows.{same_is}
 use Rattle.lists.proofs.Flat.{rows_at_lem}
-use Rattle.rows.specs.Indices.{row_at, rows_at, AscendingIndices, Ordered}
+use Rattle.rows.specs.Indices.{row_at, rows_at, Ordered}
 use Rattle.rows.proofs.Positions.{ordered_ascending, ordered_member}
-use Rattle.fusing.specs.Positions.{positions_in, OwnPositions}
-use Rattle.patterns.proofs.Parts.{part_is, part_length}
+use Rattle.fusing.specs.Positions.{positions_in}
 
 -- ---- the positions that the indices tell
-
-pub own_none : (order positions : List ℕ) → positions ≡ replicate (length positions) (length order) → OwnPositions order positions
-own_none order positions e = record {
-  named = λ i h some. absurd (some (ap (λ (l : List ℕ). get_or l i 0) e ∙ get_or-replicate (length positions) i (length order) 0 h));
-}
-
--- the index at j names its row
-pub own_turn : (order positions : List ℕ) (j : ℕ) → j < length order → get_or order j 0 < length positions → OwnPositions order positions
-    → OwnPositions order (set positions (get_or order j 0) j)
-own_turn order positions j h small p =
-    let k = get_or order j 0 in
-    record {
-      named = λ i g some.
-          bool_cases (eqb i k)
-          (λ e.
-          let q : i ≡ k = eqb-true i k e in
-          let here : get_or (set positions k j) i 0 ≡ j = ap (λ (x : ℕ). get_or (set positions k j) x 0) q ∙ get_or-set_same positions k j 0 small in
-          (omega arith, ap (λ (x : ℕ). get_or order x 0) here ∙ sym q))
-          (λ e.
-          let here : get_or (set positions k j) i 0 ≡ get_or positions i 0 = get_or-set_other positions k i j 0 (eqb-false i k e) in
-          let old = p.named i (omega (arith, length-set positions k j)) (λ z. some (here ∙ z)) in
-          (omega (arith, old.0), ap (λ (x : ℕ). get_or order x 0) here ∙ old.1));
-    }
 
 -- the positions of the first k rows are written, and those of the others are as the indices tell
 pub record Placed (order all : List ℕ) (k : ℕ) (positions : List ℕ) : Type 0 where
   pub done : (i : ℕ) → i < k → get_or positions i 0 ≡ get_or all i 0
   pub named : (i : ℕ) → k ≤ i → i < length positions → (get_or positions i 0 ≡ length order → ⊥)
       → (get_or positions i 0 < length order) × (get_or order (get_or positions i 0) 0 ≡ i)
-
-pub placed_none : (order all positions : List ℕ) → OwnPositions order positions → Placed order all 0 positions
-placed_none order all positions p = record { done = λ i h. absurd (omega arith); named = λ i h. p.named i }
 
 -- ---- all positions
 
@@ -65,9 +36,6 @@ module _ (c n : ℕ) (w l : List ℕ) (fits : n * c ≤ length w) (o : Ordered c
   abbrev pub all_positions : List ℕ
   all_positions = positions_in (rows_at c w l) (rows_in c n w)
 
-  whole : take (length l) l ≡ l
-  whole = take_all (length l) l (omega arith)
-
   positions_length : length all_positions ≡ n
   unfolding positions_in
   positions_length = length-map (rows_in c n w) (λ r. find_index (same_row r) (rows_at c w l)) ∙ rows_length c n w
@@ -75,7 +43,7 @@ module _ (c n : ℕ) (w l : List ℕ) (fits : n * c ≤ length w) (o : Ordered c
   position_is : (i : ℕ) → i < n → get_or all_positions i 0 ≡ find_index (same_row (row_at c w i)) (rows_at c w l)
   unfolding positions_in
   position_is i more =
-      map_at (λ s. find_index (same_row s) (rows_at c w l)) [] 0 (rows_in c n w) i (omega (arith, rows_length c n w))
+      map_at (λ s. find_index (same_row s) (rows_at c w l)) (rows_in c n w) i [] 0 (omega (arith, rows_length c n w))
       ∙ ap (λ (s : List ℕ). find_index (same_row s) (rows_at c w l)) (rows_at_lem c n i w more)
 
   -- the index of the row i stands at p
@@ -87,32 +55,19 @@ module _ (c n : ℕ) (w l : List ℕ) (fits : n * c ≤ length w) (o : Ordered c
       ∙ ap (λ (s : List ℕ). find_index (same_row s) (rows_at c w l)) (sym same)
       ∙ find_index-strict rows same_row same_is (row_at c w 0) (rows_at c w l) p (ordered_ascending c n w l o fits).strict (omega (arith, length-map l (row_at c w))))
 
-  -- the row i, as the part of the words that begins at its first
-  module _ (i : ℕ) (more : i < n) where
-    abbrev part : List ℕ
-    part = take (i * c + c - i * c) (drop (i * c) w)
+  -- the row i is sought
+  module _ (i : ℕ) (more : i < n) (row : List ℕ) (same : row ≡ row_at c w i) where
+    pub position_member : Member row (rows_at c w l)
+    position_member = subst (λ (r : List ℕ). Member r (rows_at c w l)) (sym same) (ordered_member c n w l o i more)
 
-    pub position_listed : AscendingIndices (length part) w (take (length l) l)
-    position_listed =
-        subst (λ (m : List ℕ). AscendingIndices (length part) w m) (sym whole)
-        (subst (λ (k : ℕ). AscendingIndices k w l) (sym (part_length c n i w fits more (i * c) refl)) (ordered_ascending c n w l o fits))
-
-    pub position_member : Member part (rows_at (length part) w (take (length l) l))
-    position_member =
-        subst (λ (m : List ℕ). Member part (rows_at (length part) w m)) (sym whole)
-        (subst (λ (k : ℕ). Member part (rows_at k w l)) (sym (part_length c n i w fits more (i * c) refl))
-        (subst (λ (r : List ℕ). Member r (rows_at c w l)) (sym (part_is c n i w fits more (i * c) refl)) (ordered_member c n w l o i more)))
-
-    pub placed_turn : (positions : List ℕ) (r : ℕ) → i < length positions → r ≡ find_index (same_row part) (rows_at (length part) w (take (length l) l))
+    pub placed_turn : (positions : List ℕ) (r : ℕ) → i < length positions → r ≡ find_index (same_row row) (rows_at c w l)
         → Placed l all_positions i positions → Placed l all_positions (i + 1) (set positions i r)
     placed_turn positions r room e p = record {
       done = below_more (λ (k : ℕ). get_or (set positions i r) k 0 ≡ get_or all_positions k 0) i
           (λ k h. get_or-set_other positions i k r 0 (λ q. omega arith) ∙ p.done k h)
           (get_or-set_same positions i r 0 room
           ∙ e
-          ∙ ap (λ (m : List ℕ). find_index (same_row part) (rows_at (length part) w m)) whole
-          ∙ ap (λ (k : ℕ). find_index (same_row part) (rows_at k w l)) (part_length c n i w fits more (i * c) refl)
-          ∙ ap (λ (s : List ℕ). find_index (same_row s) (rows_at c w l)) (part_is c n i w fits more (i * c) refl)
+          ∙ ap (λ (s : List ℕ). find_index (same_row s) (rows_at c w l)) same
           ∙ sym (position_is i more));
       named = λ k h g some.
           let here : get_or (set positions i r) k 0 ≡ get_or positions k 0 = get_or-set_other positions i k r 0 (λ q. omega arith) in

@@ -2,17 +2,17 @@
 -- rows. `words` are the union's column words, which say by their marks what complements.
 use Rattle.std.specs.Prelude.{◌≡◌, List, map, ℕ, ◌*◌, ◌≤◌, ◌<◌, length, take, Option, Some, None}
 use Rattle.definitions.specs.Limits.{max_union_rows, max_sets}
-use Rattle.definitions.specs.Image.{rows_in}
 use Rattle.definitions.specs.ComplementUnion.{joined, union_sets, fused_rows}
 use Rattle.definitions.specs.SetList.{bits, fused_position}
-use Rattle.rows.specs.Indices.{rows_at, Fit}
+use Rattle.rows.specs.declared.named.Rows.{Rows}
+use Rattle.rows.specs.Rows.{rows_of}
+use Rattle.rows.specs.Indices.{rows_at, Below}
 use Rattle.patterns.specs.Columns.{ColumnsOf}
 
--- n rows of so many cells, and for each column the word that holds those filled there
-pub record RowsOf (cells : List ℕ) (n width : ℕ) (columns : List ℕ) : Type 0 where
-  pub few : n ≤ max_union_rows
-  pub fits : n * width ≤ length cells
-  pub filled : ColumnsOf (rows_in width n cells) width columns
+-- rows of T, and for each column the word that holds those filled there
+pub record RowsOf (t : Rows) (columns : List ℕ) : Type 0 where
+  pub few : t.len ≤ max_union_rows
+  pub filled : ColumnsOf (rows_of t) t.width columns
 
 -- more sets than may be listed, or how many there are, with which the list begins
 abbrev pub SetsOf : List ℕ → List (List ℕ) → List ℕ → Option ℕ → Type 0
@@ -39,6 +39,6 @@ pub record RoomFor (count width : ℕ) (joined order positions : List ℕ) : Typ
 pub record FusedOf (words : List ℕ) (rows : List (List ℕ)) (width count : ℕ) (joined order positions : List ℕ) (m : ℕ) : Type 0 where
   pub fewer : m ≤ count
   pub within : m ≤ length order
-  pub fit : Fit width (length joined) (take m order)
+  pub below : Below count (take m order)
   pub fused : rows_at width joined (take m order) ≡ fused_rows words rows
   pub placed : take count positions ≡ map (fused_position words rows) (union_sets words rows)

@@ -1,5 +1,4 @@
 -- What the steps of complement union compute, between T and the written words.
-pub mod Members
 pub mod Groups
 pub mod Graph
 pub mod Join

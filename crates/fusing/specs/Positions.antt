@@ -1,8 +1,9 @@
 -- The positions of rows in a table whose rows are named by indices.
-use Rattle.std.specs.Prelude.{◌≡◌, List, map, ℕ, ◌*◌, ◌<◌, ◌≤◌, length, get_or}
+use Rattle.std.specs.Prelude.{◌≡◌, List, map, ℕ, ◌<◌, ◌≤◌, length, get_or}
 use Rattle.definitions.specs.Limits.{max_sets}
 use Rattle.definitions.specs.Lists.{find_index}
 use Rattle.definitions.specs.ComplementUnion.{same_row}
+use Rattle.rows.specs.declared.named.Rows.{Rows}
 use Rattle.rows.specs.Indices.{Ordered}
 
 -- the positions of rows in a table
@@ -14,8 +15,7 @@ pub record OwnPositions (order positions : List ℕ) : Type 0 where
   pub named : (i : ℕ) → i < length positions → (get_or positions i 0 ≡ length order → ⊥)
       → (get_or positions i 0 < length order) × (get_or order (get_or positions i 0) 0 ≡ i)
 
--- count rows of so many cells, and indices that name the distinct ones in ascending order
-pub record DistinctRows (cells : List ℕ) (width count : ℕ) (order : List ℕ) : Type 0 where
-  pub fits : count * width ≤ length cells
+-- indices that name the distinct ones among rows, in ascending order
+pub record DistinctRows (t : Rows) (order : List ℕ) : Type 0 where
   pub few : length order ≤ max_sets
-  pub ordered : Ordered width count cells order
+  pub ordered : Ordered t.width t.len t.cells.now order

@@ -10,11 +10,10 @@ ghost use Rattle.fusing.specs.UnionRows.{rows_of};
 ghost use Rattle.fusing.specs.Groups.{Led};
 ghost use Rattle.fusing.specs.Graph.{CountedColumns, Crossing, CrossingRows, NarrowedBy, Narrowed, GraphOf};
 
-use crate::groups::group_rows;
+use crate::groups::CellGroups;
 use crate::union_rows::UnionRows;
-use crate::walk::Members;
-use bitsets::ALL_ROWS;
-use definitions::{MAX_COLUMNS, MAX_UNION_ROWS};
+use bitsets::{ALL_ROWS, Members};
+use definitions::MAX_COLUMNS;
 use patterns::blank;
 
 // Whether a column of the union is marked.
@@ -31,6 +30,7 @@ fn fill_counted(t: &UnionRows, counted: &mut [u64])
     ensures { CountedColumns t.now.column_words.now t.now.columns.now counted.new }
 {
     let marked = any_marked(t.column_words);
+    // By index: std says nothing of a slice after `zip` of its `iter_mut`.
     for (c, word) in t.column_words.iter().enumerate() {
         let counts = words::is_marked(*word) | !marked;
         counted[c] = if counts { t.columns[c] } else { 0 };
@@ -46,6 +46,7 @@ fn crossing(row: &[u32], columns: &[u64], counted: &[u64]) -> u64
     let mut shared = 0;
     let mut above = ALL_ROWS;
     let mut within = ALL_ROWS;
+    // One index for the three lists: a pair within a pair is no plainer.
     for (c, cell) in row.iter().enumerate() {
         let filled = columns[c];
         let empty = blank(*cell);
@@ -58,42 +59,40 @@ fn crossing(row: &[u32], columns: &[u64], counted: &[u64]) -> u64
 
 // Writes for each row those that cross it.
 fn cross_rows(t: &UnionRows, counted: &[u64], neighbours: &mut [u64])
-    requires { CountedColumns t.now.column_words.now t.now.columns.now counted.now × (t.now.len ≤ length neighbours.old) }
+    requires { CountedColumns t.now.column_words.now t.now.columns.now counted.now × (t.now.rows.len ≤ length neighbours.old) }
     ensures { CrossingRows t.now.column_words.now (rows_of t.now) neighbours.new }
 {
-    for j in 0..t.len {
-        neighbours[j] = crossing(t.row(j), t.columns, counted);
+    for (j, crossed) in neighbours[..t.rows.len].iter_mut().enumerate() {
+        *crossed = crossing(t.rows.row(j), t.columns, counted);
     }
 }
 
 // Leaves to each row that is filled in a column the neighbours that are in its group there, or not filled.
-fn narrow_rows(filled: u64, leaders: &[usize], equal: &[u64], neighbours: &mut [u64])
-    requires { Led filled leaders.now equal.now × Inside filled (length leaders.now)
+fn narrow_rows(filled: u64, groups: &CellGroups, neighbours: &mut [u64])
+    requires { Led filled groups.now.leaders groups.now.equal × Inside filled (length groups.now.leaders)
         × Inside filled (length neighbours.old) }
-    ensures { NarrowedBy filled leaders.now equal.now neighbours.old
-        neighbours.new }
+    ensures { NarrowedBy filled groups.now.leaders groups.now.equal neighbours.old neighbours.new }
 {
     for j in Members::of(filled) {
-        neighbours[j] &= equal[leaders[j]] | !filled;
+        neighbours[j] &= groups.of(j) | !filled;
     }
 }
 
 // Leaves to each row the neighbours that agree with it.
 fn narrow_columns(t: &UnionRows, neighbours: &mut [u64])
-    requires { t.now.len ≤ length neighbours.old }
+    requires { t.now.rows.len ≤ length neighbours.old }
     ensures { Narrowed (rows_of t.now) neighbours.old neighbours.new }
 {
-    let mut leaders = [0usize; MAX_UNION_ROWS];
-    let mut equal = [0u64; MAX_UNION_ROWS];
+    let mut groups = CellGroups::EMPTY;
     for (c, filled) in t.columns.iter().enumerate() {
-        group_rows(t, c, &mut leaders, &mut equal);
-        narrow_rows(*filled, &leaders, &equal, neighbours);
+        groups.fill(t, c);
+        narrow_rows(*filled, &groups, neighbours);
     }
 }
 
 // Writes the graph of T.
 pub(crate) fn fill_neighbours(t: &UnionRows, neighbours: &mut [u64])
-    requires { (length t.now.column_words.now ≤ max_columns) × (t.now.len ≤ length neighbours.old) }
+    requires { (length t.now.column_words.now ≤ max_columns) × (t.now.rows.len ≤ length neighbours.old) }
     ensures { GraphOf t.now.column_words.now (rows_of t.now) neighbours.new }
 {
     // A copy, which the writes can't reach: its slices are read once.

@@ -7,7 +7,6 @@ mod groups;
 mod join;
 mod positions;
 mod union_rows;
-mod walk;
 
 pub use fused::{fuse_rows, list_sets};
 pub use union_rows::UnionRows;

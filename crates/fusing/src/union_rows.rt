@@ -1,63 +1,46 @@
 // T, as the steps of complement union read it.
-ghost use Rattle.std.specs.Prelude.{◌≡◌, ℕ, ◌*◌, ◌≤◌, ◌<◌, length, get_or};
+ghost use Rattle.std.specs.Prelude.{◌≡◌, ◌≤◌, ◌<◌, length};
 ghost use Rattle.definitions.specs.Limits.{max_union_rows};
-ghost use Rattle.definitions.specs.Image.{rows_in};
-ghost use Rattle.rows.specs.Indices.{row_at};
-ghost use Rattle.patterns.specs.Columns.{filled_in};
+ghost use Rattle.rows.specs.Rows.{rows_of};
+ghost use Rattle.patterns.specs.Columns.{ColumnsOf};
 ghost use Rattle.fusing.specs.Fused.{RowsOf};
 ghost use Rattle.fusing.specs.Groups.{cell_at};
 
-// The rows of T stand in the cells one after the other, with a cell for each column word; `columns` holds for each column the set of the
-// rows that are filled there, and nothing else.
+use rows::Rows;
+
+// The rows of T have a cell for each column word; `columns` holds for each column the set of the rows that are filled there, and nothing
+// else. The column words and the columns are two lists, as the table lends the column words.
 #[derive(Clone, Copy)]
 pub struct UnionRows<'a> {
     pub column_words: &'a [u32],
-    pub cells: &'a [u32],
+    pub rows: Rows<'a>,
     pub columns: &'a [u64],
-    pub len: usize,
-    pub ghost few: { len ≤ max_union_rows },
-    pub ghost fits: { len * length column_words.now ≤ length cells.now },
+    pub ghost few: { rows.len ≤ max_union_rows },
+    pub ghost one_cell_each: { rows.width ≡ length column_words.now },
     pub ghost one_word_each: { length columns.now ≡ length column_words.now },
-    pub ghost filled: { (c : ℕ) → c < length column_words.now
-        → get_or columns.now c 0 ≡ filled_in (rows_in (length column_words.now) len cells.now) c },
+    pub ghost filled: { ColumnsOf (rows_of rows) rows.width columns.now },
 }
 
 impl<'a> UnionRows<'a> {
-    // The first `len` rows, and the words of as many columns as there are column words.
-    pub fn new(
-        column_words: &'a [u32],
-        cells: &'a [u32],
-        len: usize,
-        columns: &'a [u64],
-    ) -> UnionRows<'a>
-        requires { RowsOf cells.now len (length column_words.now) columns.now }
+    // The rows, and the words of as many columns as there are column words.
+    pub fn new(column_words: &'a [u32], rows: Rows<'a>, columns: &'a [u64]) -> UnionRows<'a>
+        requires { RowsOf rows columns.now × (rows.width ≡ length column_words.now) }
         ensures words { result.column_words.now ≡ column_words.now }
-        ensures cells { result.cells.now ≡ cells.now }
-        ensures len { result.len ≡ len }
+        ensures rows { result.rows ≡ rows.entry }
     {
         UnionRows {
             column_words,
-            cells,
+            rows,
             columns: &columns[..column_words.len()],
-            len,
         }
-    }
-
-    // The cells of row j.
-    pub(crate) fn row(&self, j: usize) -> &'a [u32]
-        requires { j < self.now.len }
-        ensures { result.now ≡ row_at (length self.now.column_words.now) self.now.cells.now j }
-    {
-        let width = self.column_words.len();
-        let at = j * width;
-        &self.cells[at..at + width]
     }
 
     // The cell of row j in column c.
     pub(crate) fn cell(&self, j: usize, c: usize) -> u32
-        requires { (j < self.now.len) × (c < length self.now.column_words.now) }
-        ensures { result ≡ cell_at (length self.now.column_words.now) self.now.cells.now c j }
+        requires { (j < self.now.rows.len) × (c < self.now.rows.width) }
+        ensures { result ≡ cell_at self.now.rows.width self.now.rows.cells.now c j }
     {
-        self.cells[j * self.column_words.len() + c]
+        // One load, and no slice made first: the groups ask this of every filled cell.
+        self.rows.cells[j * self.rows.width + c]
     }
 }

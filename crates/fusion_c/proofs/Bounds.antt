@@ -1,5 +1,5 @@
 -- The counts of a done answer fit words of 32 bits: by the limits on columns, rows and sets. Assumes nothing.
-use mathlib.Core.Path.{◌≡◌, sym, ◌∙◌, ap, subst}
+use mathlib.Core.Path.{◌≡◌, refl, sym, subst}
 use mathlib.Core.List.{List, [], ◌∷◌, flatten}
 use Prim.Native.Nat.{ℕ, ◌+◌, ◌-◌, ◌*◌, ◌^◌, ◌≤◌, ◌<◌}
 use native.Mathlib.Nat.{mul-le-mul}
@@ -11,13 +11,7 @@ use Rattle.definitions.specs.Image.{image_of}
 use Rattle.definitions.specs.OuterUnion.{union_columns, union_rows}
 use Rattle.definitions.specs.MinimumUnion.{filled, minimum_rows}
 use Rattle.definitions.specs.ComplementUnion.{fused_rows}
-use Rattle.std.proofs.Common.{Result, Ok}
-use Rattle.definitions.specs.declared.answers.OuterCounts.{OuterCounts}
-use Rattle.definitions.specs.declared.answers.MinimumCounts.{MinimumCounts}
-use Rattle.definitions.specs.declared.answers.ComplementCounts.{ComplementCounts}
-use Rattle.definitions.specs.declared.answers.ReadingCounts.{ReadingCounts}
-use Rattle.definitions.specs.declared.refusal.Refusal.{Refusal}
-use Rattle.definitions.specs.Answer.{done, outer_says, minimum_says, complement_says, read_says}
+use Rattle.definitions.specs.Answer.{Outcome, done, refused}
 use Rattle.definitions.specs.Calls.{outer_image, minimum_image, fused_image, outer_outcome, minimum_outcome, complement_outcome}
 use Rattle.definitions.specs.ReadBack.{read_outcome}
 use Rattle.definitions.specs.Page.{page_outcome}
@@ -31,11 +25,7 @@ use Rattle.definitions.proofs.ReadBound.{read_words_bound}
 use Rattle.definitions.proofs.UnionColumns.{columns_few}
 use Rattle.definitions.proofs.Unions.{outer_length, minimum_length, fused_length}
 use Rattle.definitions.proofs.Pages.{few_pages, page_done}
-
--- each number of the list is a word of 32 bits
-abbrev pub FitWords : List ℕ → Type 0
-FitWords [] = Unit {0}
-FitWords (x ∷ l) = (x < 2 ^ 32) × FitWords l
+use Rattle.fusion_c.specs.Words.{FitWords, CountsFit}
 
 filled_few : (s : List ℕ) → filled s ≤ length s
 unfolding filled
@@ -58,19 +48,24 @@ few_words columns rows words h k e =
     let p = mul-le-mul k h in
     omega arith
 
+-- the counts of an answer fit if its values do, where it is done
+fits : (answer : Outcome) → ((values : List ℕ) → answer ≡ done values → FitWords values) → CountsFit answer
+fits (done values) carried = carried values refl
+fits (refused number table) carried = tt
+
 module _ (a b : List ℕ) where
-  pub outer_fits : (room : ℕ) (values : List ℕ) → outer_outcome a b room ≡ done values → FitWords values
+  pub outer_fits : (room : ℕ) → CountsFit (outer_outcome a b room)
   unfolding outer_image
-  outer_fits room values e =
+  outer_fits room = fits _ λ values e.
       let d = (outer_done a b room values).0 e in
       let n = accepted_rows a b d.accepted in
       let w = few_words (length (union_columns a b)) (length (union_rows a b)) _ (columns_few a b d.accepted) (omega arith) (outer_length a b) in
       let f = image_filled (union_columns a b) (union_rows a b) in
       subst FitWords (sym d.carries) (omega arith, (w, (omega arith, tt)))
 
-  pub minimum_fits : (room : ℕ) (values : List ℕ) → minimum_outcome a b room ≡ done values → FitWords values
+  pub minimum_fits : (room : ℕ) → CountsFit (minimum_outcome a b room)
   unfolding minimum_image
-  minimum_fits room values e =
+  minimum_fits room = fits _ λ values e.
       let d = (minimum_done a b room values).0 e in
       let n = accepted_rows a b d.accepted in
       let m = minimum_count (union_rows a b) in
@@ -81,9 +76,9 @@ module _ (a b : List ℕ) where
       let q = mul-le-mul n o in
       subst FitWords (sym d.carries) (omega arith, (w, (omega arith, (omega arith, tt))))
 
-  pub complement_fits : (room sets_room : ℕ) (values : List ℕ) → complement_outcome a b room sets_room ≡ done values → FitWords values
+  pub complement_fits : (room sets_room : ℕ) → CountsFit (complement_outcome a b room sets_room)
   unfolding fused_image
-  complement_fits room sets_room values e =
+  complement_fits room sets_room = fits _ λ values e.
       let d = (complement_done a b room sets_room values).0 e in
       let s = d.few_sets in
       let n = fused_count (union_columns a b) (union_rows a b) in
@@ -92,35 +87,18 @@ module _ (a b : List ℕ) where
       let l = set_list-length (union_columns a b) (union_rows a b) in
       subst FitWords (sym d.carries) (omega arith, (w, (omega arith, (omega arith, (omega arith, tt)))))
 
-pub read_fits : (list : List ℕ) (rows room : ℕ) (values : List ℕ) → read_outcome list rows room ≡ done values → FitWords values
-read_fits list rows room values e =
+pub read_fits : (list : List ℕ) (rows room : ℕ) → CountsFit (read_outcome list rows room)
+read_fits list rows room = fits _ λ values e.
     let d = (read_done list rows room values).0 e in
     let n = (accepted_form d.accepted).few_sets in
     let w = read_words_bound d.accepted in
     subst FitWords (sym d.carries) (omega arith, (omega arith, tt))
 
-pub page_fits : (image : List ℕ) (n room : ℕ) (values : List ℕ) → page_outcome image n room ≡ done values → FitWords values
-page_fits image n room values e =
+pub page_fits : (image : List ℕ) (n room : ℕ) → CountsFit (page_outcome image n room)
+page_fits image n room = fits _ λ values e.
     let d = (page_done image n room values).0 e in
     let w = few_pages image d.accepted in
     subst FitWords (sym d.carries) (omega arith, tt)
 
--- ---- the counts of an answer that is done
-
-module _ (a b : List ℕ) (room : ℕ) where
-  pub outer_told : (counts : OuterCounts) {answer : Result OuterCounts Refusal} → outer_says answer ≡ outer_outcome a b room → answer ≡ Ok counts
-      → FitWords (counts.rows ∷ counts.words ∷ counts.filled ∷ [])
-  outer_told counts said is = outer_fits a b room _ (sym said ∙ ap outer_says is)
-
-  pub minimum_told : (counts : MinimumCounts) {answer : Result MinimumCounts Refusal} → minimum_says answer ≡ minimum_outcome a b room → answer ≡ Ok counts
-      → FitWords (counts.rows ∷ counts.words ∷ counts.filled ∷ counts.pairs ∷ [])
-  minimum_told counts said is = minimum_fits a b room _ (sym said ∙ ap minimum_says is)
-
-  pub complement_told : (sets_room : ℕ) (counts : ComplementCounts) {answer : Result ComplementCounts Refusal}
-      → complement_says answer ≡ complement_outcome a b room sets_room → answer ≡ Ok counts
-      → FitWords (counts.rows ∷ counts.words ∷ counts.filled ∷ counts.sets ∷ counts.set_words ∷ [])
-  complement_told sets_room counts said is = complement_fits a b room sets_room _ (sym said ∙ ap complement_says is)
-
-pub read_told : (list : List ℕ) (rows room : ℕ) (counts : ReadingCounts) {answer : Result ReadingCounts Refusal}
-    → read_says answer ≡ read_outcome list rows room → answer ≡ Ok counts → FitWords (counts.sets ∷ counts.words ∷ [])
-read_told list rows room counts said is = read_fits list rows room _ (sym said ∙ ap read_says is)
+-- of the five calls
+pub ruleset counts_fit = (outer_fits, minimum_fits, complement_fits, read_fits, page_fits)

@@ -1,4 +1,2 @@
 -- What the proofs of the calls use.
 mod Bounds
-mod Words
-mod Given

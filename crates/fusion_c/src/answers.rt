@@ -1,28 +1,48 @@
 // The words of an answer in a lent buffer.
-ghost use Rattle.definitions.specs.CInterface.{refusal_words};
+ghost use Rattle.std.specs.Prelude.{◌≡◌, ℕ, List};
+ghost use Rattle.definitions.specs.Answer.{says, done};
+ghost use Rattle.definitions.specs.CInterface.{answer_words, refusal_words};
 ghost use Rattle.definitions.specs.Refusal.{question_number, table_number};
-ghost use Rattle.fusion_c.specs.Words.{PutWords};
+ghost use Rattle.fusion_c.specs.Words.{PutWords, FitWords, CountsFit};
 
 use definitions::Refusal;
 
 // The words of an answer.
-const ANSWER_WORDS: usize = 9;
+pub(crate) const ANSWER_WORDS: usize = 9;
+
+// What a done answer carries, as words: `fill` puts the values into the seven words behind number and table.
+pub(crate) trait AnswerWords {
+    ghost values: { Self → List ℕ };
+
+    ghost fill: { List ℕ → List ℕ };
+
+    fn words(self) -> [u32; ANSWER_WORDS]
+        requires { FitWords (values self) }
+        ensures { result ≡ answer_words fill (done (values self)) };
+}
+
+// Puts the words of an answer, done or refused, as far as they fit; its number.
+pub(crate) fn put_answer<A: AnswerWords>(said: Result<A, Refusal>, answer: &mut [u32]) -> u32
+    requires { CountsFit (says A.values said) }
+    ensures { PutWords (answer_words A.fill (says A.values said)) answer.old result answer.new }
+{
+    match said {
+        Ok(counts) => put_words(&counts.words(), answer),
+        Err(refusal) => put_refusal(refusal, answer),
+    }
+}
 
 // Puts the words as far as they fit; the first of them, the number.
-pub(crate) fn put_words(words: &[u32; ANSWER_WORDS], answer: &mut [u32]) -> u32
+fn put_words(words: &[u32; ANSWER_WORDS], answer: &mut [u32]) -> u32
     ensures { PutWords words.now answer.old result answer.new }
 {
-    let room = answer.len();
-    if room < ANSWER_WORDS {
-        rows::write_words(words, room, answer, 0);
-        return words[0];
-    }
-    rows::write_words(words, ANSWER_WORDS, answer, 0);
+    let room = answer.len().min(ANSWER_WORDS);
+    lists::write_over(&words[..room], answer, 0);
     words[0]
 }
 
 // Puts the words of a refusal as far as they fit; its number.
-pub(crate) fn put_refusal(refusal: Refusal, answer: &mut [u32]) -> u32
+fn put_refusal(refusal: Refusal, answer: &mut [u32]) -> u32
     ensures { PutWords (refusal_words (question_number refusal.question) (table_number refusal.subject))
         answer.old result answer.new }
 {

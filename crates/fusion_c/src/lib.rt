@@ -1,13 +1,14 @@
 // The C interface of the three unions, of the reader of set lists and of pages. A slice is a pointer and a length in C. Each call returns the
 // number of its refusal, 0 for done, and puts the words of its answer into `answer`, as far as they fit.
-#![tactic(auto)]
+#![tactic(auto, using(crate::proofs::Bounds::counts_fit))]
 
 mod answers;
+mod counts;
 
 ghost use Rattle.definitions.specs.Promise.{OuterPromise, MinimumPromise, ComplementPromise, ReadPromise, PagePromise};
 ghost use Rattle.definitions.specs.CInterface.{outer_words, minimum_words, complement_words, list_words, page_words, Answered};
 
-use crate::answers::{put_refusal, put_words};
+use crate::answers::put_answer;
 
 #[unsafe(no_mangle)]
 pub extern "C" fn fusion_outer_union(
@@ -20,15 +21,7 @@ pub extern "C" fn fusion_outer_union(
         (λ o. OuterPromise first.now second.now table.old o table.new)
         outer_words answer.old result answer.new }
 {
-    match unions::outer_union(first, second, table) {
-        Ok(done) => {
-            let rows = done.rows as u32;
-            let words = done.words as u32;
-            let filled = done.filled as u32;
-            put_words(&[0, 0, rows, words, filled, 0, 0, 0, 0], answer)
-        }
-        Err(refusal) => put_refusal(refusal, answer),
-    }
+    put_answer(unions::outer_union(first, second, table), answer)
 }
 
 #[unsafe(no_mangle)]
@@ -42,16 +35,7 @@ pub extern "C" fn fusion_minimum_union(
         (λ o. MinimumPromise first.now second.now table.old o table.new)
         minimum_words answer.old result answer.new }
 {
-    match unions::minimum_union(first, second, table) {
-        Ok(done) => {
-            let rows = done.rows as u32;
-            let words = done.words as u32;
-            let filled = done.filled as u32;
-            let pairs = done.pairs as u32;
-            put_words(&[0, 0, rows, words, filled, pairs, 0, 0, 0], answer)
-        }
-        Err(refusal) => put_refusal(refusal, answer),
-    }
+    put_answer(unions::minimum_union(first, second, table), answer)
 }
 
 #[unsafe(no_mangle)]
@@ -67,17 +51,7 @@ pub extern "C" fn fusion_complement_union(
         table.new sets.new)
         complement_words answer.old result answer.new }
 {
-    match unions::complement_union(first, second, table, sets) {
-        Ok(done) => {
-            let rows = done.rows as u32;
-            let words = done.words as u32;
-            let filled = done.filled as u32;
-            let sets = done.sets as u32;
-            let set_words = done.set_words as u32;
-            put_words(&[0, 0, rows, words, filled, 0, sets, set_words, 0], answer)
-        }
-        Err(refusal) => put_refusal(refusal, answer),
-    }
+    put_answer(unions::complement_union(first, second, table, sets), answer)
 }
 
 #[unsafe(no_mangle)]
@@ -91,14 +65,7 @@ pub extern "C" fn fusion_read_set_list(
         (λ o. ReadPromise list.now rows words.old o words.new)
         list_words answer.old result answer.new }
 {
-    match set_lists::read_set_list(list, rows, words) {
-        Ok(done) => {
-            let words = done.words as u32;
-            let sets = done.sets as u32;
-            put_words(&[0, 0, 0, words, 0, 0, sets, 0, 0], answer)
-        }
-        Err(refusal) => put_refusal(refusal, answer),
-    }
+    put_answer(set_lists::read_set_list(list, rows, words), answer)
 }
 
 #[unsafe(no_mangle)]
@@ -107,8 +74,5 @@ pub extern "C" fn fusion_page(image: &[u32], page: u32, bytes: &mut [u8], answer
         (λ o. PagePromise image.now page bytes.old o bytes.new)
         page_words answer.old result answer.new }
 {
-    match pages::page(image, page, bytes) {
-        Ok(pages) => put_words(&[0, 0, 0, 0, 0, 0, 0, 0, pages as u32], answer),
-        Err(refusal) => put_refusal(refusal, answer),
-    }
+    put_answer(pages::page(image, page, bytes), answer)
 }

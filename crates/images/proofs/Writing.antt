@@ -1,11 +1,11 @@
 -- The words of an image that is written: its head, then its rows, and what the buffer held past them. Assumes nothing.
-use mathlib.Core.Path.{◌≡◌, sym, ◌∙◌, ap, ap₂}
+use mathlib.Core.Path.{◌≡◌, refl, sym, ◌∙◌, ap, ap₂}
 use mathlib.Core.List.{List, ◌∷◌, ◌++◌, flatten}
 use Prim.Native.Nat.{ℕ, ◌+◌, ◌≤◌, ◌<◌}
 use native.Mathlib.Nat.{zero-add}
 use native.Mathlib.Omega.{arith}
 use lib.ListN.{length, take, drop, set, length-append}
-use lib.Seq.{paste, paste-zero, paste-suc, take_all, take-paste, drop-paste, drop-drop, length-take-le}
+use lib.Seq.{paste, paste-zero, paste-suc, take_all, take-paste, drop-paste, drop-drop}
 use Rattle.definitions.specs.Word.{header_word}
 use Rattle.definitions.specs.Image.{image_of}
 use Rattle.lists.proofs.Pastes.{paste_more}
@@ -34,11 +34,9 @@ image_written d x y columns rows n m ei er fits ex ey =
     ∙ ap (λ (k : ℕ). let l = header_word (length rows) k ∷ (columns ++ flatten rows) in l ++ drop (length l) d) (sym ei)
 
 -- the header and then the column words are the head
-pub head_written : (d x y columns : List ℕ) (h n : ℕ) → n ≤ length columns → n < length d → x ≡ set d 0 h → y ≡ paste x 1 columns n
-    → y ≡ paste d 0 (h ∷ take n columns) (1 + n)
-head_written d x y columns h n short fits ex ey =
-    let s : List ℕ = h ∷ take n columns in
+pub head_written : (d x y columns : List ℕ) (h : ℕ) → length columns < length d → x ≡ set d 0 h → y ≡ paste x 1 columns (length columns)
+    → y ≡ paste d 0 (h ∷ columns) (1 + length columns)
+head_written d x y columns h fits ex ey =
+    let s : List ℕ = h ∷ columns in
     let one : x ≡ paste d 0 s 1 = ex ∙ ap (λ (l : List ℕ). set l 0 h) (paste-zero d 0 s) ∙ paste-suc d 0 s 0 0 (omega arith) (omega arith) in
-    let size = length-take-le n columns short in
-    let rest : take n (drop 1 s) ≡ take n columns = take_all n (take n columns) (omega arith) in
-    ey ∙ ap (λ (l : List ℕ). paste l 1 columns n) one ∙ paste_more d 0 s 1 columns n (omega arith) (omega arith) rest
+    ey ∙ ap (λ (l : List ℕ). paste l 1 columns (length columns)) one ∙ paste_more d 0 s 1 columns (length columns) (omega arith) (omega arith) refl

@@ -1,17 +1,21 @@
-// A table image: the questions 1 to 7 that are put to it, and its writing.
+// A table image: the questions 1 to 7 that are put to it, the parts of an accepted one, and its writing.
 #![tactic(auto)]
 
-ghost use Rattle.std.specs.Prelude.{◌≡◌, map, eqb};
+ghost use Rattle.std.specs.Prelude.{◌≡◌, ◌<◌, ◌^◌, map, eqb, Ok};
 ghost use Rattle.definitions.specs.Lists.{all, any, distinct};
 ghost use Rattle.definitions.specs.Word.{id_of, is_cell};
 ghost use Rattle.definitions.specs.Image.{is_column};
 ghost use Rattle.definitions.specs.Questions.{image_number};
-ghost use Rattle.definitions.specs.Refusal.{number_said};
+ghost use Rattle.definitions.specs.Refusal.{number_said, table_number};
+ghost use Rattle.definitions.specs.Answer.{Outcome, unless, or_refused};
+ghost use Rattle.images.specs.declared.image.Image.{Image};
 
-use definitions::{MAX_COLUMNS, Question};
+use definitions::{MAX_COLUMNS, Question, Refusal, Subject};
 
+mod image;
 mod write;
 
+pub use image::Image;
 pub use write::{Written, put_image, write_image};
 
 // Whether a word may stand for a column.
@@ -51,6 +55,7 @@ fn has_id(w: &[u32], id: u32) -> bool
 fn distinct_ids(w: &[u32]) -> bool
     ensures { result ≡ distinct eqb (map id_of w.now) }
 {
+    // Not by `all`, whose closure may be asked of any index.
     for (i, word) in w.iter().enumerate() {
         if has_id(&w[i + 1..], words::id(*word)) {
             return false;
@@ -95,4 +100,17 @@ pub fn check_image(image: &[u32], max_rows: u32) -> Result<(), Question>
         return Err(Question::Cells);
     }
     Ok(())
+}
+
+// Puts the questions 1 to 7 to one of a call's tables, of at most ROWS rows.
+pub fn accept<const ROWS: usize>(
+    image: &[u32],
+    subject: Subject,
+) -> Result<Image<'_, ROWS>, Refusal>
+    requires { ROWS < 2 ^ 32 }
+    ensures says { (rest : Outcome) → unless (image_number ROWS image.now) (table_number subject) rest ≡ or_refused result rest }
+    ensures lends { (accepted : Image ROWS) → result ≡ Ok accepted → accepted.words.now ≡ image.now }
+{
+    check_image(image, ROWS as u32).map_err(|question| question.put_to(subject))?;
+    Ok(Image { words: image })
 }

@@ -1,12 +1,17 @@
 -- Laws of a line by its parts: its first field and the others, and the words that stand between fields. Assumes nothing.
-use Rattle.std.proofs.Common.{◌≡◌, refl, sym, ◌∙◌, ap, ℕ, List, [], ◌∷◌, ◌++◌, ◌-◌, ◌<◌, ◌≤◌, map, length, get_or, take, drop, append_assoc, arith}
+use Rattle.std.proofs.Common.{◌≡◌, refl, sym, ◌∙◌, ap, ap₂, ℕ, List, [], ◌∷◌, ◌++◌, ◌-◌, ◌<◌, ◌≤◌, map, length, get_or, take, drop, append_assoc, arith}
 use mathlib.Core.List.{flatten, map-map}
+use Rattle.std.proofs.lemmas.List.{take_rest}
 use Rattle.definitions.specs.Word.{id_of}
 use Rattle.definitions.specs.Text.{ascii, decimal, id_text, cell_text}
-use Rattle.definitions.specs.Listing.{line, columns_line, row_line, ragged_line, refused_line}
+use Rattle.definitions.specs.Listing.{line, columns_line, union_title, row_line, ragged_line, refused_line}
+use Rattle.definitions.specs.Program.{row_lines}
+use Rattle.definitions.proofs.Images.{rows_length}
 use Rattle.definitions.proofs.Lines.{later, line_first}
-use Rattle.lists.proofs.Walks.{part_tail}
+use Rattle.rows.specs.Rows.{rows_of}
+use Rattle.rows.specs.declared.named.Rows.{Rows}
 use Rattle.text.specs.Bytes.{space, newline, spaced}
+use Rattle.listing.specs.Lines.{union_lines}
 
 module _ {A : Type 0} (f : A → List ℕ) where
   later_fields : (values : List A) → later (map f values) ≡ spaced f values ++ (newline ∷ [])
@@ -33,8 +38,14 @@ pub refused_text : (number table : ℕ) → refused_line number table ≡ ascii 
 unfolding line
 refused_text number table = refl
 
-pub ids_text : (columns : List ℕ) → columns_line (map id_of columns) ≡ line (ascii "columns" ∷ map id_text columns)
+ids_text : (columns : List ℕ) → columns_line (map id_of columns) ≡ line (ascii "columns" ∷ map id_text columns)
 ids_text columns = ap (λ (fields : List (List ℕ)). line (ascii "columns" ∷ fields)) (map-map decimal id_of columns)
+
+-- the columns' line, and the lines of T, whose title has the count of rows
+pub union_text_lem : (columns : List ℕ) (t : Rows) (filled : ℕ)
+    → union_lines columns (rows_of t) filled ≡ line (ascii "columns" ∷ map id_text columns) ++ (union_title t.len filled ++ row_lines (rows_of t))
+union_text_lem columns t filled =
+    ap₂ (λ (ids : List ℕ) (n : ℕ). ids ++ (union_title n filled ++ row_lines (rows_of t))) (ids_text columns) (rows_length t.width t.len t.cells.now)
 
 -- ---- a row
 
@@ -48,4 +59,4 @@ pub some_cells : (cells : List ℕ) → 1 ≤ length cells
 some_cells [] h = absurd (omega arith)
 some_cells (x ∷ cells) h =
     line_fields cell_text (cell_text x) cells
-    ∙ ap (λ (l : List ℕ). cell_text x ++ (spaced cell_text l ++ (newline ∷ []))) (sym (part_tail (x ∷ cells) 1))
+    ∙ ap (λ (l : List ℕ). cell_text x ++ (spaced cell_text l ++ (newline ∷ []))) (sym (take_rest (x ∷ cells) 1))

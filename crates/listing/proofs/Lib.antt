@@ -1,4 +1,3 @@
 -- Laws of lines that the proofs of this crate cite.
 pub mod Fields
-pub mod Rows
 pub mod SetLines

@@ -1,60 +1,118 @@
--- Laws of a set line: the positions of a record one by one, and the fields behind them. Assumes nothing.
-use Rattle.std.proofs.Common.{◌≡◌, refl, sym, ◌∙◌, ap, ℕ, zero, suc, ◌+◌, ◌*◌, ◌/◌, ◌%◌, ◌^◌, List, [], ◌∷◌, ◌++◌, map, get_or, append_assoc, arith}
-use mathlib.Core.Bool.{Bool, cond}
-use mathlib.Core.List.{flatten}
-use borrow.Author.Tests.{eq-eqb, ne_eqb}
+-- Laws of a set line: the positions of a record, bit by bit and word by word, and the fields behind them. Assumes nothing.
+use Rattle.std.proofs.Common.{◌≡◌, refl, sym, ◌∙◌, ap, ℕ, ◌+◌, ◌*◌, ◌%◌, ◌^◌, ◌<◌, ◌≤◌, List, [], ◌∷◌, ◌++◌, map, length, get_or, take, append_assoc, arith}
+use mathlib.Core.Bool.{Bool}
+use Rattle.bitsets.specs.Bits.{lowest, without_lowest}
+use Rattle.bitsets.specs.Members.{Next}
+use Rattle.bitsets.proofs.Bits.{digit_below, lowest_inside, rest_less}
+use Rattle.bitsets.proofs.Positions.{positions_below, positions_none, positions_next}
 use Rattle.definitions.specs.Limits.{mark_words, marks_per_word}
-use Rattle.definitions.specs.Lists.{tabulate}
-use Rattle.definitions.specs.Reading.{mark_at, marks_in, positions_of, positions_in, joined_position}
+use Rattle.definitions.specs.Reading.{positions_of, positions_in, joined_position}
 use Rattle.definitions.specs.Text.{ascii, decimal}
 use Rattle.definitions.specs.Listing.{title_line, set_line}
-use Rattle.definitions.proofs.Bools.{bool_cases}
+use Rattle.definitions.proofs.Marks.{front_set}
+use Rattle.set_lists.specs.Marks.{word_positions}
+use Rattle.set_lists.proofs.Positions.{word_positions_lem, marked_from, marked_next, marked_end}
+use Rattle.text.specs.declared.Writer.{Writer}
+use Rattle.text.specs.Writer.{HasRoom, Wrote}
 use Rattle.text.specs.Bytes.{space}
+use Rattle.text.proofs.Writing.{then_wrote, first_fits, behind_fits, Begun, begun_start, begun_turn, begun_fits, begun_end}
 use Rattle.listing.specs.Lines.{positions_text, record_line}
 use Rattle.listing.proofs.Fields.{line_next}
 
 -- ---- positions
 
--- a position and a space where it is marked, and nothing where it isn't
-abbrev pub position_text : Bool → ℕ → List ℕ
-position_text mark p = cond mark (decimal p ++ (space ∷ [])) []
+no_positions : {ps : List ℕ} → ps ≡ [] → positions_text ps ≡ []
+unfolding positions_text
+no_positions e = rw e refl
 
-position_first : (mark : Bool) (p : ℕ) (set : List Bool)
-    → positions_text (positions_of p (mark ∷ set)) ≡ position_text mark p ++ positions_text (positions_of (suc p) set)
-unfolding positions_text positions_of
-position_first mark p set =
-    bool_cases mark
-    (λ q. rw q (sym (append_assoc (decimal p) (space ∷ []) (positions_text (positions_of (suc p) set)))))
-    (λ q. rw q refl)
+first_position : (p : ℕ) (ps : List ℕ) → positions_text (p ∷ ps) ≡ (decimal p ++ (space ∷ [])) ++ positions_text ps
+unfolding positions_text
+first_position p ps = sym (append_assoc (decimal p) (space ∷ []) (positions_text ps))
 
--- of n positions from q on
-positions_each : (n q : ℕ) (mark : ℕ → Bool) (text : ℕ → List ℕ) → ((p : ℕ) → text p ≡ position_text (mark p) (q + p))
-    → positions_text (positions_of q (tabulate n mark)) ≡ flatten (tabulate n text)
-unfolding tabulate flatten positions_text positions_of
-positions_each zero q mark text h = refl
-positions_each (suc n) q mark text h =
-    let first : position_text (mark 0) q ≡ text 0 = ap (position_text (mark 0)) (omega arith) ∙ sym (h 0) in
-    position_first (mark 0) q (tabulate n (λ p. mark (suc p)))
-    ∙ ap (λ (l : List ℕ). position_text (mark 0) q ++ l) (positions_each n (suc q) (λ p. mark (suc p)) (λ p. text (suc p))
-    (λ p. h (suc p) ∙ ap (position_text (mark (suc p))) (omega arith)))
-    ∙ ap (λ (l : List ℕ). l ++ flatten (tabulate n (λ p. text (suc p)))) first
+append_positions : (s t : List ℕ) → positions_text (s ++ t) ≡ positions_text s ++ positions_text t
+unfolding positions_text
+append_positions [] t = refl
+append_positions (p ∷ s) t =
+    ap (λ (l : List ℕ). decimal p ++ (space ∷ l)) (append_positions s t)
+    ∙ sym (append_assoc (decimal p) (space ∷ positions_text s) (positions_text t))
 
--- of a record
-abbrev pub record_position : List ℕ → ℕ → List ℕ
-record_position words p = position_text (mark_at words p) p
+-- ---- a mark word
 
-module _ (words : List ℕ) (p bit : ℕ) (e : bit ≡ get_or words (p / marks_per_word) 0 / 2 ^ (p % marks_per_word) % 2) where
-  pub marked : bit ≡ 1 → record_position words p ≡ decimal p ++ (space ∷ [])
-  marked h = ap (λ (mark : Bool). position_text mark p) (eq-eqb _ 1 (sym e ∙ h))
+-- the positions of a mark word are written but for those of the bits that are left
+pub record WordPut (from w : ℕ) (a : Writer) (rest : ℕ) (b : Writer) : Type 0 where
+  pub small : rest < 2 ^ marks_per_word
+  pub begun : Begun (positions_text (word_positions from w)) (positions_text (positions_below marks_per_word from rest)) a b
 
-  pub unmarked : (bit ≡ 1 → ⊥) → record_position words p ≡ []
-  unmarked h = ap (λ (mark : Bool). position_text mark p) (ne_eqb _ 1 (λ q. h (e ∙ q)))
+pub word_start : (from w : ℕ) (a : Writer) (rest : ℕ) → HasRoom a (positions_text (word_positions from w)) → rest ≡ w % 2 ^ marks_per_word
+    → WordPut from w a rest a
+word_start from w a rest h e =
+    record {
+      small = omega arith;
+      begun = begun_start a (ap positions_text (word_positions_lem from w ∙ ap (positions_below marks_per_word from) (sym e))) h;
+    }
 
-pub record_positions : (words : List ℕ)
-    → positions_text (positions_in mark_words words) ≡ flatten (tabulate (marks_per_word * mark_words) (record_position words))
-unfolding marks_in
-record_positions words =
-    positions_each (marks_per_word * mark_words) 0 (mark_at words) (record_position words) (λ p. ap (position_text (mark_at words p)) (omega arith))
+module _ {from w rest : ℕ} {a b : Writer} (t : WordPut from w a rest b) where
+  module _ {position others : ℕ} (n : Next rest position others) where
+    pub bit_small : position < marks_per_word
+    bit_small = lowest_inside rest position marks_per_word n.some n.first (λ k. digit_below marks_per_word rest k t.small)
+
+    abbrev left : List ℕ
+    left = positions_text (positions_below marks_per_word from others)
+
+    bit_text : positions_text (positions_below marks_per_word from rest) ≡ (decimal (from + position) ++ (space ∷ [])) ++ left
+    bit_text =
+        rw (n.first, n.rest)
+        (ap positions_text (positions_next marks_per_word from rest n.some (λ k. digit_below marks_per_word rest k t.small))
+        ∙ first_position (from + lowest rest) (positions_below marks_per_word from (without_lowest rest)))
+
+    module _ (h : HasRoom a (positions_text (word_positions from w))) where
+      bit_room : HasRoom b (decimal (from + position) ++ (space ∷ []))
+      bit_room = begun_fits t.begun left bit_text h
+
+      pub number_fits : HasRoom b (decimal (from + position))
+      number_fits = first_fits (space ∷ []) refl bit_room
+
+      pub space_fits : {c : Writer} → Wrote b (decimal (from + position)) c → HasRoom c (space ∷ [])
+      space_fits q = behind_fits refl bit_room q
+
+    pub bit_turn : {c d : Writer} → Wrote b (decimal (from + position)) c → Wrote c (space ∷ []) d → WordPut from w a others d
+    bit_turn p q =
+        record {
+          small = rw n.rest (omega (arith, rest_less rest n.some, t.small));
+          begun = begun_turn t.begun left bit_text (then_wrote p q);
+        }
+
+  pub word_end : rest ≡ 0 → Wrote a (positions_text (word_positions from w)) b
+  word_end e = begun_end t.begun (no_positions (ap (positions_below marks_per_word from) e ∙ positions_none marks_per_word from))
+
+-- ---- mark words
+
+-- the positions of the words before i are written
+pub record MarksPut (marks : List ℕ) (a : Writer) (i : ℕ) (b : Writer) : Type 0 where
+  pub begun : Begun (positions_text (positions_in (length marks) marks)) (positions_text (marked_from marks i)) a b
+
+pub marks_start : (marks : List ℕ) (a : Writer) → HasRoom a (positions_text (positions_in (length marks) marks)) → MarksPut marks a 0 a
+marks_start marks a h = record { begun = begun_start a refl h }
+
+module _ {marks : List ℕ} {a b : Writer} {i : ℕ} (t : MarksPut marks a i b) where
+  module _ (h : i < length marks) (w : ℕ) (e : w ≡ get_or marks i 0) where
+    abbrev behind : List ℕ
+    behind = positions_text (marked_from marks (i + 1))
+
+    word_text : positions_text (marked_from marks i) ≡ positions_text (word_positions (marks_per_word * i) w) ++ behind
+    word_text =
+        rw e
+        (ap positions_text (marked_next marks i h)
+        ∙ append_positions (word_positions (marks_per_word * i) (get_or marks i 0)) (marked_from marks (i + 1)))
+
+    pub word_fits : HasRoom a (positions_text (positions_in (length marks) marks)) → HasRoom b (positions_text (word_positions (marks_per_word * i) w))
+    word_fits room = begun_fits t.begun behind word_text room
+
+    pub word_turn : {c : Writer} → Wrote b (positions_text (word_positions (marks_per_word * i) w)) c → MarksPut marks a (i + 1) c
+    word_turn q = record { begun = begun_turn t.begun behind word_text q }
+
+  pub marks_end : length marks ≤ i → Wrote a (positions_text (positions_in (length marks) marks)) b
+  marks_end h = begun_end t.begun (no_positions (marked_end marks i h))
 
 -- ---- the line
 
@@ -70,8 +128,15 @@ set_text (p ∷ q ∷ ps) position =
     ∙ sym (append_assoc (decimal p) (space ∷ positions_text (q ∷ ps)) (title_line (ascii ">") (position ∷ [])))
 
 -- of a record, with the position in its row word
-pub record_text : (words : List ℕ) (n : ℕ) → n ≡ joined_position mark_words words
+record_text : (words : List ℕ) (n : ℕ) → n ≡ joined_position mark_words words
     → record_line words ≡ positions_text (positions_in mark_words words) ++ title_line (ascii ">") (n ∷ [])
 record_text words n e =
     set_text (positions_in mark_words words) (joined_position mark_words words)
     ∙ ap (λ (k : ℕ). positions_text (positions_in mark_words words) ++ title_line (ascii ">") (k ∷ [])) (sym e)
+
+-- its mark words alone tell
+pub front_text : (words : List ℕ) (n : ℕ) → mark_words ≤ length words → n ≡ joined_position mark_words words
+    → record_line words ≡ positions_text (positions_in (length (take mark_words words)) (take mark_words words)) ++ title_line (ascii ">") (n ∷ [])
+front_text words n h e =
+    record_text words n e
+    ∙ ap (λ (set : List Bool). positions_text (positions_of 0 set) ++ title_line (ascii ">") (n ∷ [])) (sym (front_set mark_words words refl h))

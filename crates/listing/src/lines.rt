@@ -39,7 +39,8 @@ pub fn ragged_line(name: &[u8], out: &mut Writer)
     line::<Number>(name, &[], out);
 }
 
-// The line of a refusal's number, and then the title `table` with its table.
+// The line of a refusal's number, and then the title `table` with its table. Public, beside `refusal_line`: the program's texts of
+// document 01 are told by numbers.
 pub fn refused_line(number: u32, table: u32, out: &mut Writer)
     requires { HasRoom out.old (refused_line number table) }
     ensures { Wrote out.old (refused_line number table) out.new }

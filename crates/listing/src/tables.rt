@@ -1,44 +1,39 @@
-// The lines of a table in a buffer: its title, and a line for each row.
-ghost use Rattle.std.specs.Prelude.{◌*◌, ◌≤◌, ◌++◌, length};
-ghost use Rattle.definitions.specs.Image.{rows_in};
+// The lines of a table: its title, and a line for each row.
+ghost use Rattle.std.specs.Prelude.{◌++◌};
 ghost use Rattle.definitions.specs.Listing.{title_line};
 ghost use Rattle.definitions.specs.Program.{row_lines};
-ghost use Rattle.listing.specs.Lines.{HasRows, table_lines, union_lines};
+ghost use Rattle.listing.specs.Lines.{union_lines};
+ghost use Rattle.rows.specs.Rows.{rows_of};
 ghost use Rattle.text.specs.Writer.{HasRoom, Wrote};
 
 use crate::lines::{line, row_line};
+use rows::Rows;
 use text::{Id, Number, Writer};
 
-// A line for each of `rows` rows of `columns` cells. Without columns a row is an empty line, so that no chunks can give the rows.
-fn row_lines(cells: &[u32], columns: usize, rows: usize, out: &mut Writer)
-    requires columns_in_bounds { rows * columns ≤ length cells.now }
-    requires fits { HasRoom out.old (row_lines (rows_in columns rows cells.now)) }
-    ensures { Wrote out.old (row_lines (rows_in columns rows cells.now)) out.new }
+// A line for each row; without columns, an empty one.
+fn row_lines(rows: &Rows, out: &mut Writer)
+    requires { HasRoom out.old (row_lines (rows_of rows.now)) }
+    ensures { Wrote out.old (row_lines (rows_of rows.now)) out.new }
 {
-    for row in 0..rows {
-        let start = row * columns;
-        row_line(&cells[start..start + columns], out);
+    for i in 0..rows.len {
+        row_line(rows.row(i), out);
     }
 }
 
-// A title with its numbers, and the first `rows` rows of the table in `image`: the buffer is lent whole, its words past them as found.
-pub fn table_lines(title: &[u8], numbers: &[usize], image: &[u32], rows: usize, out: &mut Writer)
-    requires has_rows { HasRows image.now rows }
-    requires fits { HasRoom out.old (title_line title.now numbers.now ++ table_lines image.now rows) }
-    ensures { Wrote out.old (title_line title.now numbers.now ++ table_lines image.now rows) out.new }
+// A title with its numbers, and the rows.
+pub fn table_lines(title: &[u8], numbers: &[usize], rows: &Rows, out: &mut Writer)
+    requires { HasRoom out.old (title_line title.now numbers.now ++ row_lines (rows_of rows.now)) }
+    ensures { Wrote out.old (title_line title.now numbers.now ++ row_lines (rows_of rows.now)) out.new }
 {
-    let columns = words::columns(image[0]) as usize;
     line::<Number>(title, numbers, out);
-    row_lines(&image[1 + columns..], columns, rows, out);
+    row_lines(rows, out);
 }
 
 // The columns, the title of T, and its rows.
-pub fn union_lines(image: &[u32], rows: usize, filled: usize, out: &mut Writer)
-    requires has_rows { HasRows image.now rows }
-    requires fits { HasRoom out.old (union_lines image.now rows filled) }
-    ensures { Wrote out.old (union_lines image.now rows filled) out.new }
+pub fn union_lines(column_words: &[u32], rows: &Rows, filled: usize, out: &mut Writer)
+    requires { HasRoom out.old (union_lines column_words.now (rows_of rows.now) filled) }
+    ensures { Wrote out.old (union_lines column_words.now (rows_of rows.now) filled) out.new }
 {
-    let columns = words::columns(image[0]) as usize;
-    line::<Id>(b"columns", &image[1..1 + columns], out);
-    table_lines(b"union", &[rows, filled], image, rows, out);
+    line::<Id>(b"columns", column_words, out);
+    table_lines(b"union", &[rows.len, filled], rows, out);
 }

@@ -8,17 +8,16 @@ use native.Mathlib.Numerals.{add-one}
 use native.Mathlib.Omega.{arith}
 use lib.Bits.{bit_or}
 use lib.Dec.{eqb}
-use lib.ListN.{length, get_or, set, take, drop, length-map, length-set, length-take, get_or-map}
+use lib.ListN.{length, get_or, set, take, drop, length-set, length-take, get_or-map}
 use lib.Seq.{take-suc-set, get_or-set_same, get_or-set_other}
 use borrow.Author.Tests.{eqb-true, eqb-false}
-use Rattle.definitions.proofs.Images.{rows_length}
 use Rattle.definitions.specs.Limits.{max_columns}
 use Rattle.definitions.specs.Image.{rows_in}
 use Rattle.definitions.specs.MinimumUnion.{filled}
-use Rattle.definitions.proofs.Bools.{bool_cases, clash, or_cases}
+use Rattle.std.proofs.lemmas.Bool.{or_cases}
+use Rattle.definitions.proofs.Bools.{bool_cases, clash}
 use Rattle.definitions.proofs.Lists.{below_cases}
 use Rattle.definitions.proofs.Subsumption.{filled-empties}
-use Rattle.lists.proofs.Flat.{part_row}
 use Rattle.patterns.proofs.Parts.{rows_snoc}
 use Rattle.bitsets.specs.Bits.{has, with_row, word_bits}
 use Rattle.bitsets.proofs.Bits.{bit_at, has-or, has_none, has_with_self, has_with_old, has_with_cases, or_in_l, or_in_r}
@@ -27,11 +26,11 @@ use Rattle.minimum.specs.Candidates.{EqualTo}
 -- ---- the counts
 
 -- the count of the next row is written
-pub counts_turn : (c i : ℕ) (w counts : List ℕ) (count : ℕ) → i < length counts → take i counts ≡ map filled (rows_in c i w)
-    → count ≡ filled (take (i * c + c - i * c) (drop (i * c) w)) → take (i + 1) (set counts i count) ≡ map filled (rows_in c (i + 1) w)
-counts_turn c i w counts count there inv e =
+pub counts_turn : (c i : ℕ) (w row counts : List ℕ) (count : ℕ) → i < length counts → take i counts ≡ map filled (rows_in c i w)
+    → row ≡ take c (drop (i * c) w) → count ≡ filled row → take (i + 1) (set counts i count) ≡ map filled (rows_in c (i + 1) w)
+counts_turn c i w row counts count there inv er e =
     rw (add-one i) (take-suc-set counts i count there)
-    ∙ ap₂ (λ (l : List ℕ) (x : ℕ). l ++ (x ∷ [])) inv (e ∙ ap filled (part_row c (i * c) w))
+    ∙ ap₂ (λ (l : List ℕ) (x : ℕ). l ++ (x ∷ [])) inv (e ∙ ap filled er)
     ∙ sym (ap (map filled) (rows_snoc c i w) ∙ map-append filled (rows_in c i w) (take c (drop (i * c) w) ∷ []))
 
 row_short : (c n : ℕ) (w : List ℕ) (j : ℕ) → length (get_or (rows_in c n w) j []) ≤ c
@@ -41,9 +40,6 @@ row_short c (suc n) w (suc j) = row_short c n (drop c w) j
 
 -- the count of row j, and 0 past the last row
 module _ (c n : ℕ) (w counts : List ℕ) (e : counts ≡ map filled (rows_in c n w)) where
-  pub counted_length : length counts ≡ n
-  counted_length = ap length e ∙ length-map (rows_in c n w) filled ∙ rows_length c n w
-
   pub count_at : (j : ℕ) → get_or counts j 0 ≡ filled (get_or (rows_in c n w) j [])
   unfolding filled
   count_at j = ap (λ (l : List ℕ). get_or l j 0) e ∙ get_or-map filled (rows_in c n w) j []

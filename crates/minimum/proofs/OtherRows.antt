@@ -22,15 +22,12 @@ use Rattle.definitions.proofs.Counts.{without-length}
 -- ---- a list without what stands at index k
 
 module _ {A : Type 0} (d : A) (k : ℕ) (l : List A) (within : k < length l) where
-  front_length : length (take k l) ≡ k
-  front_length = length-take-le k l (omega arith)
-
   without_before : (i : ℕ) → i < k → get_or (without k l) i d ≡ get_or l i d
-  without_before i h = get_or-append (take k l) (drop (suc k) l) d i (omega (arith, front_length)) ∙ get_or-take k l i d h
+  without_before i h = get_or-append (take k l) (drop (suc k) l) d i (omega (arith, length-take-le k l (omega arith))) ∙ get_or-take k l i d h
 
   without_after : (i : ℕ) → k ≤ i → get_or (without k l) i d ≡ get_or l (suc i) d
   without_after i h =
-      let e : i ≡ length (take k l) + (i - k) = omega (arith, front_length) in
+      let e : i ≡ length (take k l) + (i - k) = omega (arith, length-take-le k l (omega arith)) in
       let f : suc k + (i - k) ≡ suc i = omega arith in
       ap (λ (j : ℕ). get_or (without k l) j d) e
       ∙ get_or-append-add (take k l) (drop (suc k) l) (i - k) d

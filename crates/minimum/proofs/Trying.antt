@@ -4,28 +4,29 @@ use mathlib.Core.Path.{◌≡◌, sym, ◌∙◌, ap, ap₂}
 use mathlib.Core.Bool.{Bool, true, false, not, ◌&&◌, ◌||◌}
 use mathlib.Core.Logic.{⊎_elim}
 use mathlib.Core.List.{List, []}
-use Prim.Native.Nat.{ℕ, ◌+◌, ◌-◌, ◌*◌, ◌<◌, ◌≤◌}
+use Prim.Native.Nat.{ℕ, ◌+◌, ◌-◌, ◌<◌, ◌≤◌}
 use native.Mathlib.Omega.{arith}
 use lib.Bits.{bit_and}
 use lib.Count.{count_trailing_zeros}
-use lib.ListN.{length, get_or, take, drop, length-drop}
-use lib.Seq.{length-take-le}
+use lib.ListN.{length, get_or, drop}
 use lib.Dec.{eqb}
 use Rattle.std.specs.Prelude.{Some, None}
 use Rattle.std.proofs.Common.{Fits, w64}
 use Rattle.definitions.proofs.Images.{rows_length}
 use Rattle.definitions.specs.Word.{is_filled}
 use Rattle.definitions.specs.MinimumUnion.{filled, covers, subsumes}
-use Rattle.definitions.proofs.Bools.{clash, not_so}
+use Rattle.std.proofs.lemmas.Bool.{false_from_ne_true}
+use Rattle.definitions.proofs.Bools.{clash}
 use Rattle.definitions.proofs.Rows.{filled_cell, covers_at}
 use Rattle.definitions.proofs.Subsumption.{subsumes_is, filled-empties}
-use Rattle.lists.proofs.Flat.{rows_at_lem, row_fits, part_row}
+use Rattle.lists.proofs.Flat.{rows_at_lem}
 use Rattle.bitsets.specs.Bits.{has, without_lowest, word_bits}
 use Rattle.bitsets.proofs.Bits.{Lowest, trailing_lowest, has_none, rest_in, rest_of}
 use Rattle.bitsets.proofs.Words.{in_word}
 use Rattle.patterns.proofs.FilledRows.{filled-has}
+use Rattle.patterns.proofs.Parts.{row_length}
 use Rattle.minimum.specs.declared.trial.Trials.{Trials}
-use Rattle.minimum.specs.Trials.{rows_of}
+use Rattle.rows.specs.Rows.{rows_of}
 use Rattle.minimum.specs.Trying.{FirstSubsumer}
 use Rattle.minimum.specs.Candidates.{Candidates}
 use Rattle.minimum.proofs.Counting.{count_at}
@@ -33,7 +34,7 @@ use Rattle.minimum.proofs.Covering.{covers_next, covers_end}
 
 -- row j of a table
 abbrev pub row : Trials → ℕ → List ℕ
-row t j = get_or (rows_of t) j []
+row t j = get_or (rows_of t.rows) j []
 
 -- row j covers row k exactly if it does so from column c on
 abbrev pub CoveredTo : Trials → ℕ → ℕ → ℕ → Type 0
@@ -41,31 +42,25 @@ CoveredTo t k j c = covers (row t j) (row t k) ≡ covers (drop c (row t j)) (dr
 
 -- the rest of the candidates: fuller rows, and all that subsume row k are among them
 pub record Remaining (t : Trials) (k rest : ℕ) : Type 0 where
-  pub fuller : (i : ℕ) → has rest i ≡ true → (i < length t.counts.now) × (filled (row t k) < filled (row t i))
-  pub all : (i : ℕ) → i < length t.counts.now → subsumes (row t i) (row t k) ≡ true → has rest i ≡ true
+  pub fuller : (i : ℕ) → has rest i ≡ true → (i < t.rows.len) × (filled (row t k) < filled (row t i))
+  pub all : (i : ℕ) → i < t.rows.len → subsumes (row t i) (row t k) ≡ true → has rest i ≡ true
 
 module _ (t : Trials) where
   abbrev n : ℕ
-  n = length t.counts.now
+  n = t.rows.len
 
   abbrev at : ℕ → List ℕ
   at = row t
 
-  pub rows_many : length (rows_of t) ≡ n
-  rows_many = rows_length t.width n t.cells.now
+  pub rows_many : length (rows_of t.rows) ≡ n
+  rows_many = rows_length t.rows.width n t.rows.cells.now
 
   count_of : (j : ℕ) → get_or t.counts.now j 0 ≡ filled (at j)
-  count_of = count_at t.width n t.cells.now t.counts.now t.prepared.counted
+  count_of = count_at t.rows.width n t.rows.cells.now t.counts.now t.prepared.counted
 
-  -- the cells of row j as a part
-  pub row_part : (j : ℕ) → j < n → take (j * t.width + t.width - j * t.width) (drop (j * t.width) t.cells.now) ≡ at j
-  row_part j h = part_row t.width (j * t.width) t.cells.now ∙ sym (rows_at_lem t.width n j t.cells.now h)
-
-  row_long : (j : ℕ) → j < n → length (at j) ≡ t.width
+  row_long : (j : ℕ) → j < n → length (at j) ≡ t.rows.width
   row_long j h =
-      ap length (rows_at_lem t.width n j t.cells.now h)
-      ∙ length-take-le t.width (drop (j * t.width) t.cells.now)
-      (omega (arith, t.prepared.fits, row_fits t.width n j h, length-drop (j * t.width) t.cells.now))
+      ap length (rows_at_lem t.rows.width n j t.rows.cells.now h) ∙ row_length t.rows.width n j t.rows.cells.now t.rows.fits h
 
   module _ (k : ℕ) (own : k < n) where
     -- there is a word for each column of row k
@@ -77,6 +72,7 @@ module _ (t : Trials) where
         → Remaining t k set
     left_all set told =
         let few = in_word t.prepared.few in
+        let same = t.prepared.size in
         record {
           fuller = λ i h.
               let o = t.prepared.fuller_rows.only (get_or t.counts.now k 0) i (told.among i h) in
@@ -86,9 +82,9 @@ module _ (t : Trials) where
               told.held i (omega arith)
               (t.prepared.fuller_rows.held (get_or t.counts.now k 0) i (omega arith) (omega (arith, s.0, count_of i, count_of k)))
               (λ c g some.
-              let c_in : c < t.width = omega (arith, row_long k own) in
+              let c_in : c < t.rows.width = omega (arith, row_long k own) in
               ap (λ (x : ℕ). has x i) (t.prepared.filled_rows.words c c_in)
-              ∙ filled-has (rows_of t) c i (omega (arith, rows_many))
+              ∙ filled-has (rows_of t.rows) c i (omega (arith, rows_many))
               ∙ ⊎_elim
               (λ q. absurd (filled_cell (get_or (at k) c 0) some q))
               (λ q. ap is_filled q ∙ some)
@@ -136,16 +132,16 @@ module _ (t : Trials) where
         }
 
         -- it covers row k in every column, and so subsumes it
-        pub found_lowest : r ≡ true → c + 1 ≡ length mine → FirstSubsumer (rows_of t) k (Some next)
+        pub found_lowest : r ≡ true → c + 1 ≡ length mine → FirstSubsumer (rows_of t.rows) k (Some next)
         found_lowest e last = (
           omega (arith, next_within, rows_many),
-          λ i h. not_so (subsumes (at i) (at k)) (λ q. clash (left.all i (omega (arith, next_within)) q) (low.below i h)),
+          λ i h. false_from_ne_true (subsumes (at i) (at k)) (λ q. clash (left.all i (omega (arith, next_within)) q) (low.below i h)),
           (subsumes_is (at next) (at k)).1
               ((left.fuller next low.there).1, covers_end (at next) (at k) (c + 1) (column_covered e) (omega (arith, ap length em))),
         )
 
     -- no candidate is left
-    pub found_none : (rest : ℕ) → Remaining t k rest → rest ≡ 0 → FirstSubsumer (rows_of t) k None
+    pub found_none : (rest : ℕ) → Remaining t k rest → rest ≡ 0 → FirstSubsumer (rows_of t.rows) k None
     found_none rest left none i h =
-        not_so (subsumes (at i) (at k))
+        false_from_ne_true (subsumes (at i) (at k))
         (λ q. clash (left.all i (omega (arith, rows_many)) q) (ap (λ (x : ℕ). has x i) none ∙ has_none i))

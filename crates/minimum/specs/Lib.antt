@@ -1,4 +1,3 @@
 -- The trying of minimum union.
 pub mod Trying
 pub mod Candidates
-pub mod Trials

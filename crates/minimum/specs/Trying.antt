@@ -1,10 +1,11 @@
 -- What the trying of one row finds; what the trying of all rows is given, and what it gives: the indices of the rows that stay, and the pairs tried.
-use Rattle.std.specs.Prelude.{◌≡◌, Bool, true, false, Option, Some, None, List, [], ℕ, ◌*◌, ◌≤◌, ◌<◌, length, get_or, take}
+use Rattle.std.specs.Prelude.{◌≡◌, Bool, true, false, Option, Some, None, List, [], ℕ, ◌≤◌, ◌<◌, length, get_or, take}
 use Rattle.definitions.specs.Limits.{max_columns, max_union_rows}
 use Rattle.definitions.specs.Lists.{any, without}
 use Rattle.definitions.specs.Image.{rows_in}
 use Rattle.definitions.specs.MinimumUnion.{subsumes, minimum_rows, tries, pairs_tried}
 use Rattle.rows.specs.Indices.{rows_at, Below}
+use Rattle.rows.specs.declared.named.Rows.{Rows}
 
 -- some row subsumes row k
 abbrev pub is_subsumed : List (List ℕ) → ℕ → Bool
@@ -24,12 +25,11 @@ FirstSubsumer rows k None = NoneBefore (get_or rows k []) rows (length rows)
 FirstSubsumer rows k (Some j) =
     (j < length rows) × NoneBefore (get_or rows k []) rows j × (subsumes (get_or rows j []) (get_or rows k []) ≡ true)
 
--- n rows of c cells, no more than a table has, and room for their indices
-pub record Untried (c n : ℕ) (w indices : List ℕ) : Type 0 where
-  pub few_columns : c ≤ max_columns
-  pub few_rows : n ≤ max_union_rows
-  pub fits : n * c ≤ length w
-  pub room : n ≤ length indices
+-- no more rows and cells of a row than a table has, and room for the rows' indices
+pub record Untried (t : Rows) (indices : List ℕ) : Type 0 where
+  pub few_columns : t.width ≤ max_columns
+  pub few_rows : t.len ≤ max_union_rows
+  pub room : t.len ≤ length indices
 
 -- the first m indices name the rows among the first n that none of these subsumes, in their order, and so many pairs have been tried
 pub record KeptRows (c n : ℕ) (w indices : List ℕ) (m pairs : ℕ) : Type 0 where

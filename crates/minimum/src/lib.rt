@@ -9,7 +9,8 @@ mod trial;
 ghost use Rattle.minimum.specs.Trying.{Untried, KeptRows};
 
 use counts::{fill_counts, fill_fuller};
-use tables::Table;
+use definitions::{MAX_COLUMNS, MAX_UNION_ROWS};
+use rows::Rows;
 use trial::Trials;
 
 // How many rows stay, and how many pairs are tried.
@@ -19,21 +20,20 @@ pub struct Kept {
     pub pairs: usize,
 }
 
-// Writes the indices of those of the first n rows that none of these subsumes, ascending.
-pub fn minimum_rows(cells: &[u32], n: usize, width: usize, kept: &mut [u32]) -> Kept
-    requires { Untried width n cells.now kept.old }
-    ensures { KeptRows width n cells.now kept.new result.rows result.pairs }
+// Writes the indices of the rows that no row subsumes, ascending.
+pub fn minimum_rows(rows: &Rows, kept: &mut [u32]) -> Kept
+    requires { Untried rows.now kept.old }
+    ensures { KeptRows rows.now.width rows.now.len rows.now.cells.now kept.new result.rows result.pairs }
 {
-    let mut counts = [0u32; Table::MAX_ROWS];
-    let mut fuller = [0u64; Table::MAX_COLUMNS + 1];
-    let mut columns = [0u64; Table::MAX_COLUMNS];
-    let counts = &mut counts[..n];
-    fill_counts(cells, width, counts);
+    let mut counts = [0u32; MAX_UNION_ROWS];
+    let mut fuller = [0u64; MAX_COLUMNS + 1];
+    let mut columns = [0u64; MAX_COLUMNS];
+    let counts = &mut counts[..rows.len];
+    fill_counts(rows, counts);
     fill_fuller(counts, &mut fuller);
-    patterns::fill_columns(cells, n, width, &mut columns);
+    patterns::fill_columns(rows, &mut columns);
     let trials = Trials {
-        cells,
-        width,
+        rows: *rows,
         counts,
         fuller: &fuller,
         columns: &columns,

@@ -1,9 +1,10 @@
 // The trying of rows: each with the other rows in ascending position, until one subsumes it.
-ghost use Rattle.std.specs.Prelude.{◌≡◌, [], not, ◌||◌, ◌≤◌, ◌<◌, eqb, length, get_or};
+ghost use Rattle.std.specs.Prelude.{◌≡◌, not, ◌||◌, ◌≤◌, ◌<◌, eqb, length};
 ghost use Rattle.definitions.specs.Word.{is_filled};
 ghost use Rattle.minimum.specs.Candidates.{Prepared};
 
 use crate::{Kept, candidates};
+use rows::Rows;
 
 // A cell y of the emptier row is empty, or equals the other row's cell x.
 fn covered(x: u32, y: u32) -> bool
@@ -16,34 +17,25 @@ fn covered(x: u32, y: u32) -> bool
 // column the rows that are filled there.
 #[derive(Drop)]
 pub(crate) struct Trials<'a> {
-    pub cells: &'a [u32],
-    pub width: usize,
+    pub rows: Rows<'a>,
     pub counts: &'a [u32],
     pub fuller: &'a [u64],
     pub columns: &'a [u64],
-    ghost prepared: { Prepared width cells.now counts.now fuller.now columns.now },
+    ghost prepared: { Prepared rows counts.now fuller.now columns.now },
 }
 
 impl Trials<'_> {
-    ghost use Rattle.minimum.specs.Trials.{rows_of};
+    ghost use Rattle.rows.specs.Rows.{rows_of};
     ghost use Rattle.minimum.specs.Trying.{tries_at, FirstSubsumer, KeptRows};
 
-    // The cells of row k.
-    fn row(&self, k: usize) -> &[u32]
-        requires { k < length self.now.counts.now }
-        ensures { result.now ≡ get_or (rows_of self.now) k [] }
-    {
-        let at = k * self.width;
-        &self.cells[at..at + self.width]
-    }
-
     // The first row that subsumes row k. No cell is compared of a row that is no candidate. A candidate has more filled cells, and so
-    // subsumes row k if all columns are covered. Two loops that a label leaves are the form that was asked for, in place of `all`.
+    // subsumes row k if all columns are covered. Two loops that a label leaves are the form that was asked for, in place of `all`:
+    // the subsumer is the value of the break, which a `for` over the candidates can't give, and the index of the inner tells the last column.
     fn subsumer(&self, k: usize) -> Option<usize>
-        requires { k < length self.now.counts.now }
-        ensures { FirstSubsumer (rows_of self.now) k result }
+        requires { k < self.now.rows.len }
+        ensures { FirstSubsumer (rows_of self.now.rows) k result }
     {
-        let row = self.row(k);
+        let row = self.rows.row(k);
         let fuller = self.fuller[self.counts[k] as usize];
         let mut rest = candidates::for_row(row, fuller, self.columns);
         'rows: loop {
@@ -51,7 +43,7 @@ impl Trials<'_> {
                 break None;
             }
             let j = rest.trailing_zeros() as usize;
-            let other = self.row(j);
+            let other = self.rows.row(j);
             for (c, cell) in row.iter().enumerate() {
                 if !covered(other[c], *cell) {
                     break;
@@ -67,25 +59,26 @@ impl Trials<'_> {
 
     // The pairs tried for row k: with the other rows up to the first that subsumes it, or with all of them.
     fn tries(&self, k: usize, subsumer: Option<usize>) -> usize
-        requires { (k < length self.now.counts.now) × FirstSubsumer (rows_of self.now) k subsumer }
-        ensures { (result ≡ tries_at (rows_of self.now) k) × (result ≤ length self.now.counts.now) }
+        requires { (k < self.now.rows.len) × FirstSubsumer (rows_of self.now.rows) k subsumer }
+        ensures { (result ≡ tries_at (rows_of self.now.rows) k) × (result ≤ self.now.rows.len) }
     {
         match subsumer {
             Some(j) if j < k => j + 1,
             Some(j) => j,
-            None => self.counts.len() - 1,
+            None => self.rows.len - 1,
         }
     }
 
-    // Writes the indices of the rows that no row subsumes, ascending.
+    // Writes the indices of the rows that no row subsumes, ascending. The index into `kept` is counted by hand: it grows with the rows
+    // that stay.
     pub fn keep_rows(&self, kept: &mut [u32]) -> Kept
-        requires { length self.now.counts.now ≤ length kept.old }
-        ensures { KeptRows self.now.width (length self.now.counts.now) self.now.cells.now kept.new
+        requires { self.now.rows.len ≤ length kept.old }
+        ensures { KeptRows self.now.rows.width self.now.rows.len self.now.rows.cells.now kept.new
             result.rows result.pairs }
     {
         let mut rows = 0;
         let mut pairs = 0;
-        for k in 0..self.counts.len() {
+        for k in 0..self.rows.len {
             let subsumer = self.subsumer(k);
             pairs += self.tries(k, subsumer);
             if subsumer.is_none() {

@@ -48,8 +48,7 @@ fn minimum(rt: &(impl Print + AllocGlobal), a: &[u32], b: &[u32], room: usize) -
 
 fn main(rt: HostRuntime) -> io::Result<()> {
     for (name, first, second, room) in CASES {
-        let a = image::of_text(rt.alloc(), first)?;
-        let b = image::of_text(rt.alloc(), second)?;
+        let (a, b) = image::pair(rt.alloc(), first, second)?;
         print!(&rt; "{name}")?;
         minimum(&rt, &a, &b, room)?;
     }

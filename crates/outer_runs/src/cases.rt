@@ -46,8 +46,7 @@ const CASES: [(&str, &str, &str, usize); 19] = [
 
 pub(crate) fn run(rt: &(impl Print + AllocGlobal)) -> io::Result<()> {
     for (name, first, second, room) in CASES {
-        let a = image::of_text(rt.alloc(), first)?;
-        let b = image::of_text(rt.alloc(), second)?;
+        let (a, b) = image::pair(rt.alloc(), first, second)?;
         outer(rt, name, &a, &b, room)?;
     }
     Ok(())

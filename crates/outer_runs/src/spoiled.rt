@@ -1,48 +1,25 @@
 // Outer union of spoiled tables. Before, each has two columns, one of them shared, and two rows: seven words.
 use crate::outer;
+use Change::{Length, Word};
+use run_cases::change::{Change, changed};
 use run_cases::image;
-use std::alloc::{AllocError, Global};
 use std::io;
-
-// What spoils a table: a word put at a place, or a length to which it is cut or filled with zeros.
-#[derive(Clone, Copy)]
-enum Spoiling {
-    Word(usize, u32),
-    Length(usize),
-}
-
-use Spoiling::{Length, Word};
-
-// A table that a text describes, spoiled.
-fn spoiled(alloc: Global, text: &str, spoilings: &[Spoiling]) -> Result<Vec<u32>, AllocError> {
-    let mut image = image::of_text(alloc, text)?;
-    for spoiling in spoilings {
-        match *spoiling {
-            Word(at, word) => {
-                if let Some(old) = image.get_mut(at) {
-                    *old = word;
-                }
-            }
-            Length(words) => image.resize(words, 0)?,
-        }
-    }
-    Ok(image)
-}
 
 // Outer union of the two tables, each spoiled in its ways.
 fn both(
     rt: &(impl Print + AllocGlobal),
     name: &str,
-    first: &[Spoiling],
-    second: &[Spoiling],
+    first: &[Change],
+    second: &[Change],
 ) -> io::Result<()> {
-    let a = spoiled(rt.alloc(), "12| 34 5-", first)?;
-    let b = spoiled(rt.alloc(), "32| 64 7-", second)?;
+    let (a, b) = image::pair(rt.alloc(), "12| 34 5-", "32| 64 7-")?;
+    let a = changed(rt.alloc(), &a, first)?;
+    let b = changed(rt.alloc(), &b, second)?;
     outer(rt, name, &a, &b, 16)
 }
 
 // Each case of one table spoiled in one way.
-const EACH: [(&str, Spoiling); 20] = [
+const EACH: [(&str, Change); 20] = [
     // heads
     ("no words", Length(0)),
     ("header of kind 2", Word(0, 0x8008_0002)),
@@ -70,9 +47,9 @@ const EACH: [(&str, Spoiling); 20] = [
 pub(crate) fn run(rt: &(impl Print + AllocGlobal)) -> io::Result<()> {
     both(rt, "sound", &[], &[])?;
     both(rt, "sound", &[], &[])?;
-    for (name, spoiling) in EACH {
-        both(rt, name, &[spoiling], &[])?;
-        both(rt, name, &[], &[spoiling])?;
+    for (name, change) in EACH {
+        both(rt, name, &[change], &[])?;
+        both(rt, name, &[], &[change])?;
     }
     both(
         rt,

@@ -11,7 +11,8 @@ pub(crate) enum Shown {
     Whole,
 }
 
-// What every byte of a lent buffer holds before a call. No character of a page is that.
+// What every byte of a lent buffer holds before a call. No character of a page is that. `buffer` and this stand beside those of words in
+// `run_cases`: a page is shown as it is, or its top alone, and words as numbers.
 const FOUND: u8 = b'~';
 
 // The bytes of three lines.

@@ -2,7 +2,7 @@
 use run_cases::image;
 use std::alloc::{AllocError, Global};
 
-// The cell at an index among the cells.
+// The cell at an index among the cells. Its kind, and a column's, is written out, so that the cases are independent of the code under test.
 fn cell(index: u32) -> u32 {
     match index % 10 {
         9 => 0,
@@ -24,7 +24,5 @@ fn column(index: u32) -> u32 {
 // The image of a table of so many rows and columns.
 pub(crate) fn image(alloc: Global, rows: u32, columns: u32) -> Result<Vec<u32>, AllocError> {
     let cells = rows.saturating_mul(columns);
-    let columns: Vec<u32> = (0..columns).map(column).collect(alloc)?;
-    let cells: Vec<u32> = (0..cells).map(cell).collect(alloc)?;
-    image::of_words(alloc, &columns, &cells)
+    image::collect(alloc, (0..columns).map(column), (0..cells).map(cell))
 }

@@ -2,10 +2,11 @@
 use mathlib.Core.Path.{◌≡◌, refl, sym, ◌∙◌, ap, subst}
 use mathlib.Core.Bool.{Bool, true, false, not, cond}
 use mathlib.Core.List.{List, [], ◌∷◌, ◌++◌, map, map-append}
-use Prim.Native.Nat.{ℕ, ◌+◌, ◌-◌, ◌*◌, ◌%◌, ◌^◌, ◌<◌, ◌≤◌}
+use Prim.Native.Nat.{ℕ, ◌+◌, ◌*◌, ◌%◌, ◌^◌, ◌<◌, ◌≤◌}
 use native.Mathlib.Omega.{arith}
 use lib.Bits.{bit_or}
 use lib.ListN.{length, get_or, replicate, take, drop, length-map, length-replicate, get_or-replicate}
+use Rattle.std.proofs.lemmas.List.{get_or-map}
 use Rattle.definitions.proofs.Images.{rows_length}
 use Rattle.definitions.specs.Limits.{max_columns}
 use Rattle.definitions.specs.Word.{is_filled}
@@ -13,14 +14,12 @@ use Rattle.definitions.specs.Image.{rows_in}
 use Rattle.definitions.specs.ComplementUnion.{contains}
 use Rattle.definitions.specs.SetList.{bits}
 use Rattle.definitions.proofs.Bools.{bool_cases}
-use Rattle.definitions.proofs.Lists.{map_at}
 use Rattle.definitions.proofs.Sets.{contains-get, holds_within}
 use Rattle.bitsets.specs.Bits.{has, rows_below, word_bits}
 use Rattle.bitsets.proofs.Bits.{has-bits, has_none, below_in}
 use Rattle.patterns.specs.Columns.{blank_of, filled_in, ColumnsOf, FilledRow}
 use Rattle.patterns.proofs.Digits.{digit_next}
-use Rattle.lists.proofs.Flat.{part_row, row_size, row_within}
-use Rattle.patterns.proofs.Parts.{rows_snoc}
+use Rattle.patterns.proofs.Parts.{rows_snoc, row_length}
 
 -- ---- the rows that are filled in a column
 
@@ -42,7 +41,7 @@ pub filled-has : (rows : List (List ℕ)) (column k : ℕ) → k < length rows �
 unfolding filled_in
 filled-has rows column k h =
     let f : List ℕ → Bool = λ r. is_filled (get_or r column 0) in
-    has-bits (map f rows) k ∙ contains-get (map f rows) k ∙ map_at f [] (is_filled 0) rows k h
+    has-bits (map f rows) k ∙ contains-get (map f rows) k ∙ get_or-map f rows k [] (is_filled 0) h
 
 pub filled_within : (rows : List (List ℕ)) (column k : ℕ) → has (filled_in rows column) k ≡ true → k < length rows
 unfolding filled_in
@@ -81,14 +80,13 @@ columns_none width h = record {
 }
 
 -- n rows of c cells stand in w, and row j is the next
-pub columns_more : (c n j : ℕ) (w : List ℕ) → n * c ≤ length w → j < n → (found columns : List ℕ) → ColumnsOf (rows_in c j w) c found
-    → FilledRow (take (j * c + c - j * c) (drop (j * c) w)) j found columns → ColumnsOf (rows_in c (j + 1) w) c columns
-columns_more c n j w fits more found columns o f =
-    let part : List ℕ = take (j * c + c - j * c) (drop (j * c) w) in
-    let long : length part ≡ c = row_size c w (j * c) (row_within c n w j (j * c) refl more fits) in
-    subst (λ (r : List (List ℕ)). ColumnsOf r c columns)
-    (ap (λ (u : List ℕ). rows_in c j w ++ (u ∷ [])) (part_row c (j * c) w) ∙ sym (rows_snoc c j w))
-    (subst (λ (k : ℕ). ColumnsOf (rows_in c j w ++ (part ∷ [])) k columns) long
+pub columns_more : (c n j : ℕ) (w r : List ℕ) → n * c ≤ length w → j < n → r ≡ take c (drop (j * c) w) → (found columns : List ℕ)
+    → ColumnsOf (rows_in c j w) c found → FilledRow r j found columns → ColumnsOf (rows_in c (j + 1) w) c columns
+columns_more c n j w r fits more e found columns o f =
+    let long : length r ≡ c = ap length e ∙ row_length c n j w fits more in
+    subst (λ (t : List (List ℕ)). ColumnsOf t c columns)
+    (ap (λ (u : List ℕ). rows_in c j w ++ (u ∷ [])) e ∙ sym (rows_snoc c j w))
+    (subst (λ (k : ℕ). ColumnsOf (rows_in c j w ++ (r ∷ [])) k columns) long
     (f.more (rows_in c j w) (rows_length c j w) (subst (λ (k : ℕ). ColumnsOf (rows_in c j w) k found) (sym long) o)))
 
 -- ---- the blank word of a cell

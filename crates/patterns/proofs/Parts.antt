@@ -1,13 +1,13 @@
 -- The rows of a flat list of words: one more, and each as a part of the words. Assumes nothing.
-use mathlib.Core.Path.{◌≡◌, sym, ◌∙◌, ap, ap₂}
+use mathlib.Core.Path.{◌≡◌, sym, ◌∙◌, ap₂}
 use mathlib.Core.List.{List, [], ◌∷◌, ◌++◌}
-use Prim.Native.Nat.{ℕ, suc, ◌+◌, ◌-◌, ◌*◌, ◌<◌, ◌≤◌}
+use Prim.Native.Nat.{ℕ, suc, ◌+◌, ◌*◌, ◌<◌, ◌≤◌}
 use native.Mathlib.Omega.{arith}
 use lib.ListN.{length, take, drop, length-drop}
 use lib.Seq.{length-take-le, take-suc, take_all}
 use Rattle.definitions.proofs.Images.{rows_length}
 use Rattle.definitions.specs.Image.{rows_in}
-use Rattle.lists.proofs.Flat.{rows_take, rows_at_lem, row_fits, part_row}
+use Rattle.lists.proofs.Flat.{rows_take, rows_at_lem, row_fits}
 
 -- the rows with the next one
 pub rows_snoc : (c n : ℕ) (w : List ℕ) → rows_in c (n + 1) w ≡ rows_in c n w ++ (take c (drop (n * c) w) ∷ [])
@@ -24,11 +24,3 @@ module _ (c n i : ℕ) (w : List ℕ) (fits : n * c ≤ length w) (more : i < n)
 
   pub row_length : length (take c (drop (i * c) w)) ≡ c
   row_length = length-take-le c (drop (i * c) w) (omega (arith, length-drop (i * c) w, row_within))
-
-  -- the row as a part that starts at its first word
-  module _ (at : ℕ) (here : at ≡ i * c) where
-    pub part_is : take (at + c - at) (drop at w) ≡ take c (drop (i * c) w)
-    part_is = part_row c at w ∙ ap (λ (k : ℕ). take c (drop k w)) here
-
-    pub part_length : length (take (at + c - at) (drop at w)) ≡ c
-    part_length = ap length part_is ∙ row_length

@@ -1,6 +1,6 @@
 -- Laws of filled cells and patterns: a pattern's bound, its next bit, that its ones are the filled cells, and the walk that counts. Assumes nothing.
 use mathlib.Core.Path.{◌≡◌, refl, sym, ◌∙◌, ap, ap₂, subst}
-use mathlib.Core.Bool.{Bool, true, false, cond}
+use mathlib.Core.Bool.{cond}
 use mathlib.Core.List.{List, [], ◌∷◌, map, map-append}
 use Prim.Native.Nat.{ℕ, ◌+◌, ◌*◌, ◌/◌, ◌%◌, ◌^◌, ◌<◌, ◌≤◌}
 use native.Mathlib.Nat.{lt_of_lt_of_le}
@@ -10,8 +10,9 @@ use lib.ListN.{length, get_or, take, length-map}
 use lib.Seq.{length-take-le, take-suc}
 use lib.Bits.{bit_or}
 use lib.Pow.{pow_mono}
-use Rattle.std.specs.List.{count_by}
-use Rattle.std.proofs.lemmas.List.Recursion.{is_count_by}
+use Rattle.std.specs.Prelude.{sum_by}
+use Rattle.std.proofs.lemmas.List.Recursion.{is_sum_by}
+use Rattle.std.proofs.lemmas.List.Sums.{sum_by-le}
 use lib.Count.{ones, ones_step}
 use Rattle.definitions.specs.Limits.{max_columns}
 use Rattle.definitions.specs.Word.{is_filled}
@@ -52,10 +53,11 @@ pattern_turn row i p b few h e f =
 
 -- ---- the filled cells of a list, counted
 
-pub filled_count : (w : List ℕ) → filled w ≡ count_by is_filled w
+pub filled_sum : (w : List ℕ) → filled w ≡ sum_by bit_of w
 unfolding filled
-filled_count w = is_count_by filled is_filled refl (λ x xs. step (is_filled x) (filled xs)) w
-  where
-    step : (b : Bool) (k : ℕ) → cond b 1 0 + k ≡ cond b (1 + k) k
-    step true k = refl
-    step false k = omega arith
+filled_sum w = is_sum_by filled bit_of refl (λ x xs. refl) w
+
+pub sum_few : (w : List ℕ) → sum_by bit_of w ≤ length w
+sum_few w =
+    let most = sum_by-le bit_of 1 w (λ k d h. omega (arith, bit_small (is_filled (get_or w k d)))) in
+    omega arith

@@ -1,11 +1,9 @@
 // The filled pattern of a row, the ones of a pattern, the count of filled cells, and the rows that are filled in each column.
 #![tactic(auto)]
 
-ghost use Rattle.std.specs.Prelude.{◌≡◌, cond, ◌*◌, ◌≤◌, ◌<◌, ◌^◌, length};
-ghost use mathlib.Core.List.{flatten};
+ghost use Rattle.std.specs.Prelude.{◌≡◌, cond, ◌≤◌, ◌<◌, ◌^◌, length};
 ghost use Rattle.definitions.specs.Limits.{max_columns};
 ghost use Rattle.definitions.specs.Word.{is_filled};
-ghost use Rattle.definitions.specs.Image.{rows_in};
 ghost use Rattle.definitions.specs.MinimumUnion.{filled};
 ghost use Rattle.patterns.specs.Pattern.{pattern_of};
 
@@ -28,6 +26,7 @@ fn pattern(row: &[u32]) -> u32
     ensures { (result ≡ pattern_of row.now) × (result < 2 ^ max_columns) }
 {
     let mut p = 0;
+    // The index is the bit of the cell's column.
     for (i, cell) in row.iter().enumerate() {
         p |= u32::from(is_filled(*cell)) << i;
     }
@@ -42,14 +41,9 @@ pub fn count_filled(row: &[u32]) -> u32
     count_ones(pattern(row))
 }
 
-// The filled cells of the first n rows of width cells.
-pub fn count_rows(cells: &[u32], n: usize, width: usize) -> usize
-    requires { n * width ≤ length cells.now }
-    ensures { result ≡ filled (flatten (rows_in width n cells.now)) }
+// How many of the cells are filled, however many they are: the table of `count_filled` is for a row, whose cells a pattern holds.
+pub fn count_cells(cells: &[u32]) -> usize
+    ensures { result ≡ filled cells.now }
 {
-    let mut total = 0;
-    for cell in &cells[..n * width] {
-        total += usize::from(is_filled(*cell));
-    }
-    total
+    cells.iter().map(|cell| usize::from(is_filled(*cell))).sum()
 }

@@ -8,8 +8,8 @@ use Prim.Native.Nat.{ℕ, ◌*◌, ◌<◌, ◌≤◌}
 use native.Mathlib.Nat.{eq-or-lt_of_le}
 use native.Mathlib.Omega.{arith}
 use lib.Dec.{ltb}
-use lib.ListN.{length, get_or, take, length-map, get_or-map}
-use lib.Seq.{take-append-le}
+use lib.ListN.{length, get_or, take, drop, length-map, get_or-map}
+use lib.Seq.{take-append-le, length-take-le}
 use borrow.Author.Tests.{ltb-true, ltb-false}
 use Rattle.std.specs.Cmp.Lexicographic.{slice_cmp}
 use Rattle.std.specs.List.Sorted.{IsPartitionedBy, IsPartitionPoint}
@@ -42,9 +42,23 @@ module _ (c n : ℕ) (w l : List ℕ) (o : Ordered c n w l) where
       (ascending-has rows (row_at c w i) (rows_in c n w)
       (subst (λ (r : List ℕ). Member r (rows_in c n w)) (rows_at_lem c n i w h) (member-get [] (rows_in c n w) i (omega (arith, rows_length c n w)))))
 
--- the same of a longer list that begins with them
-pub ordered_front : (c n m : ℕ) (w x y : List ℕ) → m ≤ length x → Ordered c n w (take m x) → Ordered c n w (take m (x ++ y))
-ordered_front c n m w x y h o = subst (Ordered c n w) (sym (take-append-le m x y h)) o
+-- the first m indices of a list name the distinct rows
+pub record Front (c n m : ℕ) (w order : List ℕ) : Type 0 where
+  pub named : Ordered c n w (take m order)
+  pub count : length (take m order) ≡ m
+  pub fewer : m ≤ n
+
+-- `order_rows` put them in the first n places of a list
+pub ordered_within : (c n m : ℕ) (w old x : List ℕ) → n ≤ length old → length x ≡ length (take n old)
+    → (m ≤ length (take n old)) × Ordered c (length (take n old)) w (take m x) → Front c n m w (x ++ drop n old)
+ordered_within c n m w old x room size o =
+    let all : length (take n old) ≡ n = length-take-le n old room in
+    let front : take m (x ++ drop n old) ≡ take m x = take-append-le m x (drop n old) (omega (arith, size, o.0)) in
+    record {
+      named = subst (Ordered c n w) (sym front) (subst (λ (k : ℕ). Ordered c k w (take m x)) all o.1);
+      count = ap length front ∙ length-take-le m x (omega (arith, size, o.0));
+      fewer = omega (arith, all, o.0);
+    }
 
 -- ---- the rows that come before a row
 

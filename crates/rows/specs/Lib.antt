@@ -1,2 +1,3 @@
 -- Rows named by their indices.
 pub mod Indices
+pub mod Rows

@@ -2,11 +2,9 @@
 // position of a row among them, and rows written by their indices. Rows stay where they are; only their indices are moved.
 #![tactic(auto)]
 
-mod calls;
 mod compare;
 mod named;
 mod order;
 mod write;
 
-pub use calls::{order_rows, position_of, write_rows, write_words};
 pub use named::Rows;

@@ -18,9 +18,7 @@ fn cell(row: u32, column: u32) -> u32 {
 }
 
 pub fn image(alloc: Global) -> Result<Vec<u32>, AllocError> {
-    let columns: Vec<u32> = (0..COLUMNS).map(|id| 0x8000_0000 | id).collect(alloc)?;
-    let cells: Vec<u32> = (0..ROWS * COLUMNS)
-        .map(|k| cell(k / COLUMNS, k % COLUMNS))
-        .collect(alloc)?;
-    image::of_words(alloc, &columns, &cells)
+    let columns = (0..COLUMNS).map(|id| 0x8000_0000 | id);
+    let cells = (0..ROWS * COLUMNS).map(|k| cell(k / COLUMNS, k % COLUMNS));
+    image::collect(alloc, columns, cells)
 }

@@ -1,4 +1,4 @@
-// Runs of a program on a folder of data.
+// Runs of a program on folders of data.
 use std::io;
 
 // Prints a title, and runs a program on the two files of a folder.
@@ -14,4 +14,18 @@ pub fn run<F: FnOnce(&str, &str) -> io::Result<()>>(
     let board = format!(in rt.alloc(); "{folder}/board.tbl")?;
     let plant = format!(in rt.alloc(); "{folder}/plant.tbl")?;
     program(&board, &plant)
+}
+
+// The same for each case: its title, and its folder.
+pub fn run_all<F: Fn(&str, &str) -> io::Result<()>>(
+    rt: &(impl Print + AllocGlobal),
+    cases: &[(&str, &str)],
+    program: F,
+) -> io::Result<()>
+    requires { F.IsAlwaysCallable program }
+{
+    for (title, folder) in cases {
+        run(rt, *title, *folder, &program)?;
+    }
+    Ok(())
 }

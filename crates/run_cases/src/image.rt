@@ -1,5 +1,7 @@
 // Table images from a short text: the columns, a bar, then the cells row by row. A byte stands for the number that it is above `0`, a `-`
 // for the empty cell; spaces among the cells are passed over. Of the columns, a small letter stands for a marked one: `a` for that with id 1.
+ghost use Rattle.std.specs.Iterator.{IsFinite};
+
 use std::alloc::{AllocError, Global};
 
 // The number that a byte stands for.
@@ -23,7 +25,8 @@ fn cell(byte: u8) -> u32 {
     }
 }
 
-// The image of the columns and cells, as many rows as the cells fill.
+// The image of the columns and cells, as many rows as the cells fill. Kinds are written out, here and where cases are made, so that the
+// cases are independent of the code under test.
 pub fn of_words(alloc: Global, columns: &[u32], cells: &[u32]) -> Result<Vec<u32>, AllocError> {
     let width = columns.len();
     let rows = cells.len().checked_div(width).unwrap_or(0);
@@ -34,14 +37,28 @@ pub fn of_words(alloc: Global, columns: &[u32], cells: &[u32]) -> Result<Vec<u32
     Ok(image)
 }
 
+// The same of columns and cells as they come.
+pub fn collect<C: Iterator<Item = u32>, D: Iterator<Item = u32>>(
+    alloc: Global,
+    columns: C,
+    cells: D,
+) -> Result<Vec<u32>, AllocError>
+    requires columns { C.Iterator.can_next columns × IsFinite (C.Iterator.remaining columns) }
+    requires cells { D.Iterator.can_next cells × IsFinite (D.Iterator.remaining cells) }
+{
+    let columns: Vec<u32> = columns.collect(alloc)?;
+    let cells: Vec<u32> = cells.collect(alloc)?;
+    of_words(alloc, &columns, &cells)
+}
+
 // The image that a text describes.
 pub fn of_text(alloc: Global, text: &str) -> Result<Vec<u32>, AllocError> {
     let (columns, cells) = text.split_once('|').unwrap_or((text, ""));
-    let columns: Vec<u32> = columns.bytes().map(column).collect(alloc)?;
-    let cells: Vec<u32> = cells
-        .bytes()
-        .filter(|byte| *byte != b' ')
-        .map(cell)
-        .collect(alloc)?;
-    of_words(alloc, &columns, &cells)
+    let cells = cells.bytes().filter(|byte| *byte != b' ');
+    collect(alloc, columns.bytes().map(column), cells.map(cell))
+}
+
+// The images of the two texts of a case.
+pub fn pair(alloc: Global, first: &str, second: &str) -> Result<(Vec<u32>, Vec<u32>), AllocError> {
+    Ok((of_text(alloc, first)?, of_text(alloc, second)?))
 }

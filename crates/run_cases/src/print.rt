@@ -1,4 +1,5 @@
-// Answers and buffers as lines.
+// Answers and buffers as lines. A call stands where its case does, between `lend`, and `answer` and `buffer`: a function that takes it as a
+// closure would name the number of its counts in the bound `FnOnce`, which the borrow checker doesn't cover.
 use definitions::Refusal;
 use std::alloc::{AllocError, Global};
 use std::io;

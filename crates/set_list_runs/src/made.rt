@@ -23,23 +23,20 @@ const FEW: [(&str, &str, &str, u32, usize); 2] = [
     ),
 ];
 
-// The set list of complement union of two tables, none where it's refused.
-fn set_list(alloc: Global, a: &[u32], b: &[u32]) -> Result<Option<Vec<u32>>, AllocError> {
+// The set list of complement union of two tables, with no words where it's refused.
+fn set_list(alloc: Global, a: &[u32], b: &[u32]) -> Result<Vec<u32>, AllocError> {
     let mut table = vec![in alloc; 0; 12000]?;
     let mut list = vec![in alloc; 0; 4200]?;
-    let Ok(done) = unions::complement_union(a, b, &mut table, &mut list) else {
-        return Ok(None);
-    };
-    list.truncate(done.set_words);
-    Ok(Some(list))
+    let answer = unions::complement_union(a, b, &mut table, &mut list);
+    list.truncate(answer.map_or(0, |done| done.set_words));
+    Ok(list)
 }
 
 pub(crate) fn run(rt: &(impl Print + AllocGlobal)) -> io::Result<()> {
     let alloc = rt.alloc();
     for (name, first, second, rows, room) in FEW {
-        let a = image::of_text(alloc, first)?;
-        let b = image::of_text(alloc, second)?;
-        let list = set_list(alloc, &a, &b)?.unwrap_or(Vec::new(alloc));
+        let (a, b) = image::pair(alloc, first, second)?;
+        let list = set_list(alloc, &a, &b)?;
         read(rt, name, &list, rows, room)?;
     }
     many(rt)
@@ -50,7 +47,7 @@ fn many(rt: &(impl Print + AllocGlobal)) -> io::Result<()> {
     let alloc = rt.alloc();
     let a = fan::image(alloc)?;
     let b = image::of_text(alloc, "0|")?;
-    let list = set_list(alloc, &a, &b)?.unwrap_or(Vec::new(alloc));
+    let list = set_list(alloc, &a, &b)?;
     read(rt, "made of 1,024 sets", &list, 20, 12300)?;
     read(rt, "1,024 sets, one word short", &list, 20, 12287)?;
     let longer = changed(

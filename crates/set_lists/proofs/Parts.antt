@@ -6,9 +6,10 @@ use Prim.Native.Nat.{ℕ, ◌+◌, ◌-◌, ◌<◌, ◌≤◌}
 use native.Mathlib.Omega.{arith}
 use lib.ListN.{length, get_or, take, drop, length-drop}
 use lib.Seq.{drop-drop}
+use Rattle.std.proofs.lemmas.List.{drop_more, drop_all, take_rest}
 use Rattle.lists.specs.Written.{Fits, Written}
-use Rattle.lists.proofs.Walks.{next, end, part_tail, rest_size}
-use Rattle.lists.proofs.Writing.{Writing, starts, rest_as, fits_next, turns, ends}
+use Rattle.lists.proofs.Walks.{rest_size}
+use Rattle.lists.proofs.Writing.{Writing, rest_as, fits_next, turns, ends}
 
 -- what a buffer has left, and the buffer with it written over
 abbrev pub left : ℕ → List ℕ → List ℕ
@@ -23,7 +24,7 @@ module _ (m : List ℕ) (mid : ℕ) (text : List ℕ) (h : Fits m mid text) wher
 
   module _ {a : List ℕ} {n : ℕ} (q : Written (left mid m) 0 text a n) where
     none_behind : post_of mid (length m - mid) m ≡ []
-    none_behind = end (drop mid m) (length m - mid) (omega (arith, length-drop mid m))
+    none_behind = drop_all (length m - mid) (drop mid m) (omega (arith, length-drop mid m))
 
     pub left_written : Written m mid text (over mid m a) (mid + n)
     left_written =
@@ -31,7 +32,7 @@ module _ (m : List ℕ) (mid : ℕ) (text : List ℕ) (h : Fits m mid text) wher
           ends = omega (arith, q.ends);
           within = omega (arith, q.ends);
           holds = ap₂ (λ (x y : List ℕ). take mid m ++ (x ++ y))
-              (q.holds ∙ ap (λ (l : List ℕ). text ++ drop n l) (part_tail m mid)) none_behind
+              (q.holds ∙ ap (λ (l : List ℕ). text ++ drop n l) (take_rest m mid)) none_behind
               ∙ ap (λ (l : List ℕ). take mid m ++ l) (append-nil (text ++ drop n (drop mid m)))
               ∙ sym (append_assoc (take mid m) text (drop n (drop mid m)))
               ∙ ap (λ (l : List ℕ). take mid m ++ text ++ l) (drop-drop n mid m);
@@ -60,16 +61,13 @@ module _ {A : Type 0} (f : A → List ℕ) (xs : List A) where
   pub record Each (b : List ℕ) (i : ℕ) (m : List ℕ) (mid : ℕ) : Type 0 where
     pub writing : Writing b 0 (texts_from 0) (texts_from i) m mid
 
-  pub each_start : (b : List ℕ) → Fits b 0 (texts_from 0) → Each b 0 b 0
-  each_start b h = record { writing = starts b 0 (texts_from 0) h }
-
 module _ {A : Type 0} {f : A → List ℕ} {xs : List A} {b m : List ℕ} {i mid : ℕ} (w : Each f xs b i m mid) where
   module _ (h : i < length xs) (x : A) (e : x ≡ get_or xs i x) where
     next_text : Writing b 0 (texts_from f xs 0) (f x ++ texts_from f xs (i + 1)) m mid
     unfolding flatten
     next_text =
         rest_as
-        (ap (λ (l : List A). flatten (map f l)) (next x xs i h) ∙ ap (λ (y : A). f y ++ texts_from f xs (i + 1)) (sym e))
+        (ap (λ (l : List A). flatten (map f l)) (drop_more xs i x h) ∙ ap (λ (y : A). f y ++ texts_from f xs (i + 1)) (sym e))
         w.writing
 
     text_room : Fits m mid (f x)
@@ -83,4 +81,4 @@ module _ {A : Type 0} {f : A → List ℕ} {xs : List A} {b m : List ℕ} {i mid
 
   pub each_end : length xs ≤ i → Written b 0 (texts_from f xs 0) m mid
   unfolding flatten
-  each_end h = ends (rest_as (ap (λ (l : List A). flatten (map f l)) (end xs i h)) w.writing)
+  each_end h = ends (rest_as (ap (λ (l : List A). flatten (map f l)) (drop_all i xs h)) w.writing)

@@ -1,5 +1,5 @@
 -- Laws of the members of sets as positions: those of a mark word bit by bit, and of mark words one by one. Assumes nothing.
-use mathlib.Core.Path.{◌≡◌, refl, sym, ◌∙◌, ap}
+use mathlib.Core.Path.{◌≡◌, refl, sym, ◌∙◌, ap, subst}
 use mathlib.Core.List.{List, [], ◌∷◌, ◌++◌}
 use Prim.Native.Nat.{ℕ, ◌+◌, ◌*◌, ◌%◌, ◌^◌, ◌≤◌, ◌<◌}
 use native.Mathlib.Omega.{arith}
@@ -7,16 +7,17 @@ use lib.Count.{ones}
 use lib.ListN.{length, get_or, drop, set, length-append}
 use Rattle.std.specs.List.{sum_by}
 use Rattle.std.proofs.lemmas.List.Sums.{sum_by-cons}
+use Rattle.std.proofs.lemmas.List.{drop_more, drop_all}
 use Rattle.definitions.specs.Limits.{marks_per_word}
 use Rattle.definitions.specs.Lists.{tabulate}
 use Rattle.definitions.specs.Reading.{marks_in, set_in, positions_of, positions_in}
 use Rattle.definitions.proofs.Positions.{positions_count}
 use Rattle.definitions.proofs.Reading.{marks_count}
 use Rattle.bitsets.specs.Bits.{lowest, without_lowest}
+use Rattle.bitsets.specs.Members.{Next}
 use Rattle.bitsets.proofs.Bits.{digit_below, lowest_inside, rest_less}
 use Rattle.bitsets.proofs.Positions.{positions_below, positions_none, positions_next, positions_ones}
 use Rattle.lists.specs.Written.{Fits, Written}
-use Rattle.lists.proofs.Walks.{next, end}
 use Rattle.lists.proofs.Writing.{Writing, starts, rest_as, fits_next, turns, ends, one_written}
 use Rattle.set_lists.specs.Marks.{word_positions}
 use Rattle.set_lists.proofs.Parts.{left, over, left_fits, left_written}
@@ -25,7 +26,7 @@ use Rattle.set_lists.proofs.Marks.{mark_set, word_bits_lem, positions_words}
 -- ---- a mark word
 
 -- its positions are those of its low bits
-word_positions_lem : (from w : ℕ) → word_positions from w ≡ positions_below marks_per_word from (w % 2 ^ marks_per_word)
+pub word_positions_lem : (from w : ℕ) → word_positions from w ≡ positions_below marks_per_word from (w % 2 ^ marks_per_word)
 word_positions_lem from w = ap (positions_of from) (word_bits_lem w)
 
 -- as many as these have ones
@@ -46,27 +47,29 @@ word_start from w b rest h e =
     }
 
 module _ {from w : ℕ} {b m : List ℕ} {rest mid : ℕ} (t : WordWritten from w b rest m mid) where
-  module _ (some : 0 < rest) where
+  module _ {position others : ℕ} (n : Next rest position others) where
     next_bit : Writing b 0 (word_positions from w) (((from + lowest rest) ∷ []) ++ positions_below marks_per_word from (without_lowest rest)) m mid
-    next_bit = rest_as (positions_next marks_per_word from rest some (λ k. digit_below marks_per_word rest k t.small)) t.writing
+    next_bit = rest_as (positions_next marks_per_word from rest n.some (λ k. digit_below marks_per_word rest k t.small)) t.writing
 
-    pub bit_small : {row : ℕ} → row ≡ lowest rest → row < marks_per_word
-    bit_small {row} e = lowest_inside rest row marks_per_word some e (λ k. digit_below marks_per_word rest k t.small)
+    pub bit_small : position < marks_per_word
+    bit_small = lowest_inside rest position marks_per_word n.some n.first (λ k. digit_below marks_per_word rest k t.small)
 
     pub bit_fits : mid < length m
     bit_fits = omega (arith, fits_next ((from + lowest rest) ∷ []) (positions_below marks_per_word from (without_lowest rest)) next_bit)
 
-    pub bit_turn : {row left : ℕ} → row ≡ lowest rest → left ≡ without_lowest rest
-        → WordWritten from w b left (set m mid (from + row)) (mid + 1)
-    bit_turn {row} {left} e g =
-        rw (e, g)
+    pub bit_turn : WordWritten from w b others (set m mid (from + position)) (mid + 1)
+    bit_turn =
+        rw (n.first, n.rest)
         (record {
-          small = omega (arith, rest_less rest some, t.small);
+          small = omega (arith, rest_less rest n.some, t.small);
           writing = turns (positions_below marks_per_word from (without_lowest rest)) next_bit (one_written m mid (from + lowest rest) bit_fits);
         })
 
-  pub word_end : rest ≡ 0 → Written b 0 (word_positions from w) m mid
-  word_end e = ends (rest_as (ap (positions_below marks_per_word from) e ∙ positions_none marks_per_word from) t.writing)
+  -- as many as the low bits have ones
+  pub word_end : {marks : ℕ} → rest ≡ 0 → marks ≡ w % 2 ^ marks_per_word → Written b 0 (word_positions from w) m (ones marks)
+  word_end e g =
+      let q = ends (rest_as (ap (positions_below marks_per_word from) e ∙ positions_none marks_per_word from) t.writing) in
+      subst (λ (k : ℕ). Written b 0 (word_positions from w) m k) (omega (arith, q.ends, word_count from w, ap ones g)) q
 
 -- ---- mark words
 
@@ -74,17 +77,17 @@ module _ {from w : ℕ} {b m : List ℕ} {rest mid : ℕ} (t : WordWritten from 
 abbrev pub marked_from : List ℕ → ℕ → List ℕ
 marked_from marks i = positions_of (marks_per_word * i) (mark_set (drop i marks))
 
-marked_next : (marks : List ℕ) (i : ℕ) → i < length marks
+pub marked_next : (marks : List ℕ) (i : ℕ) → i < length marks
     → marked_from marks i ≡ word_positions (marks_per_word * i) (get_or marks i 0) ++ marked_from marks (i + 1)
 marked_next marks i h =
     let from : marks_per_word * i + marks_per_word ≡ marks_per_word * (i + 1) = omega arith in
-    ap (λ (l : List ℕ). positions_of (marks_per_word * i) (mark_set l)) (next 0 marks i h)
+    ap (λ (l : List ℕ). positions_of (marks_per_word * i) (mark_set l)) (drop_more marks i 0 h)
     ∙ positions_words (marks_per_word * i) (get_or marks i 0) (drop (i + 1) marks)
     ∙ ap (λ (k : ℕ). word_positions (marks_per_word * i) (get_or marks i 0) ++ positions_of k (mark_set (drop (i + 1) marks))) from
 
-marked_end : (marks : List ℕ) (i : ℕ) → length marks ≤ i → marked_from marks i ≡ []
+pub marked_end : (marks : List ℕ) (i : ℕ) → length marks ≤ i → marked_from marks i ≡ []
 unfolding marks_in tabulate positions_of
-marked_end marks i h = ap (λ (l : List ℕ). positions_of (marks_per_word * i) (mark_set l)) (end marks i h)
+marked_end marks i h = ap (λ (l : List ℕ). positions_of (marks_per_word * i) (mark_set l)) (drop_all i marks h)
 
 -- at most as many as the words have bits for
 pub members_few : (m : ℕ) (words : List ℕ) → length (positions_in m words) ≤ marks_per_word * m
@@ -108,9 +111,6 @@ members_count from (w ∷ marks) =
 -- the positions of the words before i are written
 pub record MarksWritten (marks b : List ℕ) (i : ℕ) (m : List ℕ) (mid : ℕ) : Type 0 where
   pub writing : Writing b 0 (positions_in (length marks) marks) (marked_from marks i) m mid
-
-pub marks_start : (marks b : List ℕ) → Fits b 0 (positions_in (length marks) marks) → MarksWritten marks b 0 b 0
-marks_start marks b h = record { writing = starts b 0 (positions_in (length marks) marks) h }
 
 module _ {marks b m : List ℕ} {i mid : ℕ} (t : MarksWritten marks b i m mid) where
   module _ (h : i < length marks) (w : ℕ) (e : w ≡ get_or marks i 0) where

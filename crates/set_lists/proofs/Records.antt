@@ -4,12 +4,12 @@ use mathlib.Core.List.{List, [], ◌∷◌, ◌++◌, flatten}
 use Prim.Native.Nat.{ℕ, ◌+◌, ◌*◌, ◌/◌, ◌%◌, ◌^◌, ◌<◌, ◌≤◌}
 use native.Mathlib.Omega.{arith}
 use lib.ListN.{length, get_or, set, drop, length-append}
+use Rattle.std.proofs.lemmas.List.{drop_more, drop_all}
 use Rattle.definitions.specs.Limits.{mark_words, set_width}
 use Rattle.definitions.specs.Word.{word_of, header_word}
 use Rattle.definitions.specs.SetList.{marks_from, record_of, list_of}
 use Rattle.definitions.proofs.Counts.{record_length}
 use Rattle.lists.specs.Written.{Fits, Written}
-use Rattle.lists.proofs.Walks.{next, end}
 use Rattle.lists.proofs.Writing.{Writing, starts, rest_as, fits_next, turns, ends, one_written}
 use Rattle.set_lists.specs.Records.{records_of, Listable}
 
@@ -22,13 +22,13 @@ module _ (sets positions : List ℕ) where
   abbrev pub records_from : ℕ → List ℕ
   records_from k = flatten (records_of (drop k sets) (drop k positions))
 
-  records_count : (s p : List ℕ) → length p ≡ length s → length (records_of s p) ≡ length s
+  records_count : (s p : List ℕ) → length s ≤ length p → length (records_of s p) ≡ length s
   unfolding records_of
   records_count [] p e = refl
   records_count (set ∷ s) [] e = absurd (omega arith)
   records_count (set ∷ s) (position ∷ p) e = omega (arith, records_count s p (omega arith))
 
-  records_size : (s p : List ℕ) → length p ≡ length s → length (flatten (records_of s p)) ≡ set_width * length s
+  records_size : (s p : List ℕ) → length s ≤ length p → length (flatten (records_of s p)) ≡ set_width * length s
   unfolding records_of flatten
   records_size [] p e = refl
   records_size (set ∷ s) [] e = absurd (omega arith)
@@ -70,7 +70,7 @@ module _ (sets positions : List ℕ) where
           unfolding records_of flatten
           next_record =
               rest_as
-              (ap₂ (λ (x y : List ℕ). flatten (records_of x y)) (next 0 sets k h) (next 0 positions k (omega (arith, fits.paired)))
+              (ap₂ (λ (x y : List ℕ). flatten (records_of x y)) (drop_more sets k 0 h) (drop_more positions k 0 (omega (arith, fits.paired)))
               ∙ ap₂ (λ (x y : ℕ). record_of mark_words x y ++ records_from (k + 1)) (sym e) (sym g))
               w.writing
 
@@ -87,6 +87,6 @@ module _ (sets positions : List ℕ) where
         pub list_end : length sets ≤ k → m ≡ whole ++ drop (1 + set_width * length sets) found
         unfolding records_of flatten
         list_end h =
-            let q = ends (rest_as (ap (λ (x : List ℕ). flatten (records_of x (drop k positions))) (end sets k h)) w.writing) in
+            let q = ends (rest_as (ap (λ (x : List ℕ). flatten (records_of x (drop k positions))) (drop_all k sets h)) w.writing) in
             let size : at ≡ 1 + set_width * length sets = omega (arith, q.ends, whole_size) in
             q.holds ∙ ap (λ (n : ℕ). whole ++ drop n found) size

@@ -7,7 +7,7 @@ use native.Mathlib.Omega.{arith}
 use lib.Dec.{eqb, ltb}
 use lib.ListN.{length, get_or, take, drop}
 use Rattle.std.specs.Simd.{first_chunks}
-use Rattle.std.specs.List.{list_all, AllAdjacentBelow, IsAllAdjacentAnswer}
+use Rattle.std.specs.List.{AllAdjacentBelow, IsAllAdjacentAnswer}
 use Rattle.std.specs.declared.cmp.Ordering.{Ordering}
 use Rattle.definitions.specs.Limits.{max_union_rows, max_sets, mark_words, set_width}
 use Rattle.definitions.specs.Lists.{all}
@@ -16,20 +16,17 @@ use Rattle.definitions.specs.Image.{header, is_header, rows_in}
 use Rattle.definitions.specs.Ascending.{is_before, is_ascending}
 use Rattle.definitions.specs.Reading.{set_count, records_in, positions_of, positions_in}
 use Rattle.definitions.specs.ReadBack.{is_set_list, are_mark_words, is_record}
-use Rattle.definitions.proofs.Bools.{not_so, and_i, and-no_r}
+use Rattle.std.proofs.lemmas.Bool.{and_from, and_right, false_from_ne_true}
 use Rattle.definitions.proofs.ListChecks.{WellFormed, well_formed_is}
 use Rattle.definitions.proofs.Marks.{front_set}
+use Rattle.lists.proofs.Flat.{chunk_rows}
 use Rattle.set_lists.specs.Marks.{marks_fit}
 
 -- ---- the list as a whole
 
 pub not_listed : (rows : ℕ) (list : List ℕ) → (WellFormed mark_words rows list → ⊥) → is_set_list mark_words rows list ≡ false
 not_listed rows list broken =
-    not_so (is_set_list mark_words rows list) (λ e. broken ((well_formed_is mark_words rows list).0 e))
-
-chunks_are_rows : (c n : ℕ) (words : List ℕ) → first_chunks c n words ≡ rows_in c n words
-chunks_are_rows c zero words = refl
-chunks_are_rows c (suc n) words = ap (λ (rows : List (List ℕ)). take c words ∷ rows) (chunks_are_rows c n (drop c words))
+    false_from_ne_true (is_set_list mark_words rows list) (λ e. broken ((well_formed_is mark_words rows list).0 e))
 
 -- a list of a first word and others
 module _ (rows : ℕ) {first : ℕ} {list rest : List ℕ} (e : list ≡ first ∷ rest) where
@@ -54,7 +51,7 @@ module _ (rows : ℕ) {first : ℕ} {list rest : List ℕ} (e : list ≡ first �
     pub chunks_are : {chunks : List (List ℕ)} → chunks ≡ first_chunks set_width (length rest / set_width) rest → chunks ≡ records_in mark_words list
     chunks_are c =
         let count : length rest / set_width ≡ set_count list = omega (arith, size, ap rows_of header_is) in
-        c ∙ chunks_are_rows set_width (length rest / set_width) rest
+        c ∙ chunk_rows set_width (length rest / set_width) rest
         ∙ ap₂ (rows_in set_width) count (ap (drop 1) (sym e))
 
 -- ---- one record
@@ -102,11 +99,6 @@ module _ (m rows : ℕ) (words part : List ℕ) (e : part ≡ take m words) (h :
 
 -- ---- all records
 
-pub all_is : {A : Type 0} (p : A → Bool) (l : List A) → list_all p l ≡ all p l
-unfolding all
-all_is p [] = refl
-all_is p (x ∷ l) = ap (λ (b : Bool). p x && b) (all_is p l)
-
 -- each comes before the next
 module _ {A B : Type 0} (compare : B → B → Ordering) (f : A → B) where
   abbrev before : A → A → Bool
@@ -116,7 +108,7 @@ module _ {A B : Type 0} (compare : B → B → Ordering) (f : A → B) where
   unfolding is_ascending
   ascends [] h = refl
   ascends (x ∷ []) h = refl
-  ascends (x ∷ y ∷ l) h = and_i (sym (h 0 x (omega arith))) (ascends (y ∷ l) (λ k d g.
+  ascends (x ∷ y ∷ l) h = and_from _ _ (sym (h 0 x (omega arith))) (ascends (y ∷ l) (λ k d g.
       let e : suc k + 1 ≡ suc (k + 1) = omega arith in
       subst (λ (i : ℕ). true ≡ before (get_or (y ∷ l) k d) (get_or (x ∷ y ∷ l) i d)) e (h (suc k) d (omega arith))))
 
@@ -127,7 +119,7 @@ module _ {A B : Type 0} (compare : B → B → Ordering) (f : A → B) where
   falls (x ∷ y ∷ l) zero g h = ap (λ (b : Bool). b && is_ascending compare (map f (y ∷ l))) (sym (h x))
   falls (x ∷ y ∷ l) (suc k) g h =
       let e : suc k + 1 ≡ suc (k + 1) = omega arith in
-      and-no_r (before x y) (is_ascending compare (map f (y ∷ l))) (falls (y ∷ l) k (omega arith)
+      and_right (before x y) (is_ascending compare (map f (y ∷ l))) (falls (y ∷ l) k (omega arith)
       (λ d. subst (λ (i : ℕ). false ≡ before (get_or (y ∷ l) k d) (get_or (x ∷ y ∷ l) i d)) e (h d)))
 
   pub ascending_is : (l : List A) (r : Bool) → IsAllAdjacentAnswer (λ x y b. b ≡ before x y) l r → r ≡ is_ascending compare (map f l)

@@ -1,5 +1,5 @@
 -- The records of a set list, made of sets as bits and of the positions of their joined rows.
-use Rattle.std.specs.Prelude.{List, [], ◌∷◌, ℕ, ◌≤◌, ◌≡◌, length}
+use Rattle.std.specs.Prelude.{List, [], ◌∷◌, ℕ, ◌≤◌, length, take}
 use Rattle.definitions.specs.Limits.{mark_words, max_sets}
 use Rattle.definitions.specs.SetList.{record_of}
 use Rattle.rows.specs.Indices.{Below}
@@ -13,5 +13,5 @@ records_of (set ∷ sets) (position ∷ positions) = record_of mark_words set po
 -- as many sets as a set list can hold, each with a position
 pub record Listable (sets positions : List ℕ) : Type 0 where
   pub few : length sets ≤ max_sets
-  pub paired : length positions ≡ length sets
-  pub small : Below max_sets positions
+  pub paired : length sets ≤ length positions
+  pub small : Below max_sets (take (length sets) positions)

@@ -1,4 +1,5 @@
-// The members of sets as positions: how many words they take, and their writing.
+// The members of sets as positions: how many words they take, and their writing. Each part is written from the front of the words that are
+// left, and tells how many it wrote: a writer that only goes on would have to count the members first, a further walk for each record.
 ghost use Rattle.std.specs.Prelude.{◌≡◌, map, ◌^◌, ◌≤◌, ◌<◌, length};
 ghost use mathlib.Core.List.{flatten};
 ghost use Rattle.definitions.specs.Limits.{max_sets, mark_words};
@@ -8,6 +9,7 @@ ghost use Rattle.lists.specs.Written.{Fits, Written};
 ghost use Rattle.set_lists.specs.Marks.{word_positions, entries};
 
 use crate::Record;
+use bitsets::Members;
 use definitions::{MARK_WORDS, MARKS_PER_WORD};
 use words::low_bits;
 
@@ -39,15 +41,12 @@ fn write_positions(w: u32, from: u32, out: &mut [u32]) -> usize
     requires { Fits out.old 0 (word_positions from w) × (from < 2 ^ 16) }
     ensures { Written out.old 0 (word_positions from w) out.new result }
 {
-    let mut rest = low_bits(w) as u64;
-    let mut count = 0;
-    // By the bits that are left: with an iterator of them, the index into `out` would stay.
-    while rest != 0 {
-        out[count] = from + bitsets::lowest_row(rest) as u32;
-        rest = bitsets::without_lowest(rest);
-        count += 1;
+    let marks = low_bits(w);
+    // By index: std says nothing of a slice after `zip` of its `iter_mut`.
+    for (count, position) in Members::of(marks as u64).enumerate() {
+        out[count] = from + position as u32;
     }
-    count
+    marks.count_ones() as usize
 }
 
 // Writes the positions that mark words mark over the front of `out`: so many.

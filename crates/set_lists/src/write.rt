@@ -30,7 +30,8 @@ fn record_of(set: u64, position: u32) -> Record
     ]
 }
 
-// Writes the set list of sets whose joined rows have these positions in the fused table, over the front of the buffer.
+// Writes the set list of sets whose joined rows have these positions in the fused table, over the front of the buffer. Sets and positions are two
+// lists: the search makes the one, the ordering of the joined rows the other.
 pub fn write_list(sets: &[u64], positions: &[u32], buffer: &mut [u32])
     requires { Listable sets.now positions.now × (1 + set_width * length sets.now ≤ length buffer.old) }
     ensures { buffer.new
@@ -38,7 +39,8 @@ pub fn write_list(sets: &[u64], positions: &[u32], buffer: &mut [u32])
         ++ drop (1 + set_width * length sets.now) buffer.old }
 {
     buffer[0] = words::header_word(sets.len() as u32, SET_WIDTH as u32);
-    // The index is counted, since std says nothing of what a slice holds after `as_chunks_mut` or `chunks_exact_mut`.
+    // The index is counted, since std says nothing of what a slice holds after `as_chunks_mut` or `chunks_exact_mut`. Four words are copied without
+    // a call.
     let mut at = 1;
     for (set, position) in sets.iter().zip(positions) {
         let end = at + SET_WIDTH;

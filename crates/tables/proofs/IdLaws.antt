@@ -7,14 +7,14 @@ use Prim.Native.Nat.{ℕ, ◌+◌, ◌≤◌, ◌<◌}
 use native.Mathlib.Numerals.{add-one}
 use native.Mathlib.Omega.{arith}
 use lib.Dec.{eqb}
-use lib.ListN.{length, get_or, set, take, length-map}
+use lib.ListN.{length, get_or, set, take}
 use lib.Seq.{take_all, take-suc-set, take-append-add}
 use borrow.Author.Tests.{eqb-true, eqb-false, eq-eqb, ne_eqb}
 use Rattle.std.specs.List.{list_any}
 use Rattle.definitions.specs.Limits.{max_columns, max_rows}
 use Rattle.definitions.specs.Lists.{any, filter, distinct}
 use Rattle.definitions.specs.Word.{id_of}
-use Rattle.definitions.specs.Image.{column_count, column_words, image_ids}
+use Rattle.definitions.specs.Image.{column_words, image_ids}
 use Rattle.definitions.specs.Ascending.{ascending}
 use Rattle.definitions.specs.OuterUnion.{compare_word, union_ids, marks, union_column, union_columns}
 use Rattle.definitions.specs.Questions.{image_number}
@@ -24,7 +24,6 @@ use Rattle.definitions.proofs.Lists.{keep_took, filter_left, filter-all, member-
 use Rattle.definitions.proofs.Ascending.{ascending-has, ascending_only}
 use Rattle.definitions.proofs.Orders.{words}
 use Rattle.definitions.proofs.Questions.{passed_is}
-use Rattle.definitions.proofs.Images.{passed_ids}
 use Rattle.definitions.proofs.Unions.{ids_are}
 use Rattle.definitions.proofs.UnionColumns.{small_ids}
 use Rattle.tables.specs.UnionIds.{new_ids, with_new, in_order, BothIds, ColumnIds, ColumnsWith, Markable, MarksAdded}
@@ -125,11 +124,3 @@ unfolding union_columns
 union_marked a b all d first second x y z ea eb unmarked one two =
     two (λ id. false || marks first id) (one (λ id. false) unmarked)
     ∙ ap₂ (λ (p q : List ℕ). map (union_column p q) (in_order all)) ea eb ∙ ap (map (union_column (column_words a) (column_words b))) d.union
-
--- an image has as many column words as its header says, and few
-pub words_count : (image : List ℕ) → image_number max_rows image ≡ 0 → (part : List ℕ) → part ≡ column_words image → length part ≡ column_count image
-words_count image ok part e =
-    sym (length-map part id_of) ∙ ap (λ (l : List ℕ). length (map id_of l)) e ∙ passed_ids max_rows image ((passed_is max_rows image).0 ok)
-
-pub words_few : (image : List ℕ) → image_number max_rows image ≡ 0 → (part : List ℕ) → part ≡ column_words image → length part ≤ max_columns
-words_few image ok part e = omega (arith, words_count image ok part e, ((passed_is max_rows image).0 ok).few_columns)

@@ -10,6 +10,7 @@ use lib.Dec.{eqb}
 use lib.ListN.{length, get_or, set, replicate, take, drop, length-set, length-map, get_or-map}
 use lib.Seq.{get_or-set_same, get_or-set_other, ext_get_or}
 use borrow.Author.Tests.{eqb-true, eqb-false, eq-eqb}
+use Rattle.std.proofs.lemmas.List.{get_or-map as map_at, drop_more, drop_all}
 use Rattle.definitions.specs.Lists.{any, distinct}
 use Rattle.definitions.specs.Ascending.{ascending}
 use Rattle.definitions.specs.OuterUnion.{compare_word, cell_in, widened}
@@ -17,9 +18,8 @@ use Rattle.definitions.specs.Statements.{Member, StrictlyAscending}
 use Rattle.definitions.proofs.Bools.{bool_cases, clash}
 use Rattle.definitions.proofs.Ascending.{is_strict, ascending_only, ascending-has}
 use Rattle.definitions.proofs.Orders.{words}
-use Rattle.definitions.proofs.Lists.{member-get, member_at, member-map, map-member, map_ext, map_at, any_of}
+use Rattle.definitions.proofs.Lists.{member-get, member_at, member-map, map-member, map_ext, any_of}
 use Rattle.definitions.proofs.Widened.{cell_own, widened_own, widened_lacking}
-use Rattle.lists.proofs.Walks.{next, end}
 use Rattle.tables.specs.UnionIds.{smaller_than, indices_in, scattered}
 use Rattle.tables.proofs.Smaller.{smaller_index, smaller_member, smaller_ascending, distinct_count, known_member}
 
@@ -35,21 +35,18 @@ none_left cells [] = refl
 none_left cells (p ∷ indices) = refl
 
 module _ (cells₀ indices row : List ℕ) where
-  pub scatter_none : Scattering cells₀ indices row 0 cells₀
-  scatter_none = record { size = refl; rest = refl }
-
   pub scatter_turn : (j d p v : ℕ) (cells : List ℕ) → Scattering cells₀ indices row j cells → j < length indices → j < length row
       → p ≡ get_or indices j d → v ≡ get_or row j 0 → Scattering cells₀ indices row (j + 1) (set cells p v)
   unfolding scattered
   scatter_turn j d p v cells s h g ep ev = record {
     size = length-set cells p v ∙ s.size;
-    rest = s.rest ∙ ap₂ (scattered cells) (next d indices j h) (next 0 row j g)
+    rest = s.rest ∙ ap₂ (scattered cells) (drop_more indices j d h) (drop_more row j 0 g)
         ∙ ap₂ (λ (k x : ℕ). scattered (set cells k x) (drop (j + 1) indices) (drop (j + 1) row)) (sym ep) (sym ev);
   }
 
   pub scatter_all : (j : ℕ) (cells : List ℕ) → Scattering cells₀ indices row j cells → length row ≤ j → cells ≡ scattered cells₀ indices row
   scatter_all j cells s h =
-      sym (s.rest ∙ ap (scattered cells (drop j indices)) (end row j h) ∙ none_left cells (drop j indices))
+      sym (s.rest ∙ ap (scattered cells (drop j indices)) (drop_all j row h) ∙ none_left cells (drop j indices))
 
 -- ---- what stands in the cells afterwards
 
@@ -150,7 +147,7 @@ module _ (f : ℕ → ℕ) (all cells : List ℕ) (differ : distinct eqb all ≡
   sorted_values =
       map_ext (cell_in all (map f all)) f sorted (λ x s.
       let i = member_at 0 x all (ascending_only words x all s) in
-      ap (cell_in all (map f all)) (sym i.2) ∙ cell_own sorted all (map f all) differ i.0 i.1 ∙ map_at f 0 0 all i.0 i.1 ∙ ap f i.2)
+      ap (cell_in all (map f all)) (sym i.2) ∙ cell_own sorted all (map f all) differ i.0 i.1 ∙ map_at f all i.0 0 0 i.1 ∙ ap f i.2)
 
   pub values_sorted : scattered cells (indices_in all all) (map f all) ≡ map f sorted
   values_sorted =

@@ -48,7 +48,7 @@ union_covers a b union e =
       record { strict = up; has = λ id h. in_union id (member-join id (image_ids a) (image_ids b) (inr h)) },
     )
 
--- an image is an accepted one, and its ids are among those of both
+-- the ids of each image are among those of both
 pub record Sources (a b all : List ℕ) : Type 0 where
   pub first : Source a all
   pub second : Source b all
@@ -57,8 +57,8 @@ pub sources : {a b all : List ℕ} → Found a b all → Sources a b all
 sources {a} {b} {all} f =
     let covers = union_covers a b (in_order all) f.ids.union in
     record {
-      first = record { accepted = f.first; differ = f.ids.differ; covers = covers.0; few = f.few };
-      second = record { accepted = f.second; differ = f.ids.differ; covers = covers.1; few = f.few };
+      first = record { differ = f.ids.differ; covers = covers.0; few = f.few };
+      second = record { differ = f.ids.differ; covers = covers.1; few = f.few };
     }
 
 -- the union has w columns, the first image n rows, and the second m; there is room for all of them
@@ -122,13 +122,13 @@ module _ {a b all : List ℕ} {n m from : ℕ} (cells : List ℕ) (f : Found a b
         ∙ ap (λ (u : List ℕ). widened_rows u a ++ widened_rows u b) f.ids.union
 
 -- the distinct rows, written by their indices
-pub cells_ordered : (w n m : ℕ) (wide order cells cur : List ℕ) → n * w ≤ length wide → m ≤ length order → Ordered w n wide (take m order)
-    → cur ≡ paste cells 0 (flatten (rows_at w wide (take m order))) (m * w) → rows_in w m cur ≡ ascending compare_row (rows_in w n wide)
+pub cells_ordered : (w n m : ℕ) (wide order cells cur : List ℕ) → n * w ≤ length wide → length order ≡ m → Ordered w n wide order
+    → cur ≡ paste cells 0 (flatten (rows_at w wide order)) (length order * w) → rows_in w m cur ≡ ascending compare_row (rows_in w n wide)
 cells_ordered w n m wide order cells cur h k o e =
     let rs = ascending compare_row (rows_in w n wide) in
     let even : Wide w rs = λ r s. rows_wide w n wide h r (ascending_only rows r (rows_in w n wide) s) in
-    let count : length rs ≡ m = sym (ap length o.rows) ∙ length-map (take m order) (row_at w wide) ∙ length-take-le m order k in
-    pasted_rows w m rs cells cur even count (e ∙ ap (λ (l : List (List ℕ)). paste cells 0 (flatten l) (m * w)) o.rows)
+    let count : length rs ≡ m = sym (ap length o.rows) ∙ length-map order (row_at w wide) ∙ k in
+    pasted_rows w m rs cells cur even count (e ∙ ap₂ (λ (l : List (List ℕ)) (j : ℕ). paste cells 0 (flatten l) (j * w)) o.rows k)
 
 -- a new table with the columns of both images, and rows in it
 pub filled_table : {a b all : List ℕ} {rs : List (List ℕ)} {t : Table} → Found a b all → (new : Table) → NewTable a b (length all) new

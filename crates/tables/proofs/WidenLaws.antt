@@ -11,13 +11,14 @@ use lib.Seq.{take_all, length-take-le, get_or-drop, drop-drop, take-append_seam,
 use Rattle.definitions.specs.Limits.{max_rows}
 use Rattle.definitions.specs.Image.{column_count, row_count, cell_words, image_ids, image_rows}
 use Rattle.definitions.specs.OuterUnion.{widened, widened_rows}
+use Rattle.definitions.specs.Questions.{image_number}
 use Rattle.definitions.specs.Statements.{Member}
 use Rattle.definitions.proofs.Lists.{member-get, map-member}
 use Rattle.definitions.proofs.Counts.{flatten-length}
 use Rattle.definitions.proofs.Questions.{passed_is}
 use Rattle.definitions.proofs.Images.{passed_ids, passed_rows, widened_count, rows_length}
 use Rattle.definitions.proofs.Flat.{Wide}
-use Rattle.lists.proofs.Flat.{row_fits}
+use Rattle.lists.proofs.Flat.{row_fits, flatten_next}
 use Rattle.tables.specs.Table.{Source, EmptyFor, Widened}
 use Rattle.tables.specs.UnionIds.{indices_in, scattered, in_order}
 use Rattle.tables.proofs.Smaller.{distinct_count}
@@ -29,13 +30,6 @@ take_member : {A : Type 0} (x : A) (k : ℕ) (l : List A) → Member x (take k l
 take_member x zero l h = absurd h
 take_member x (suc k) [] h = h
 take_member x (suc k) (y ∷ l) h = ⊎_elim (λ e. inl e) (λ r. inr (take_member x k l r)) h
-
-flatten_next : (i : ℕ) (l : List (List ℕ)) (d : List ℕ) → i < length l → flatten (take (suc i) l) ≡ flatten (take i l) ++ get_or l i d
-unfolding flatten
-flatten_next i [] d h = absurd (omega arith)
-flatten_next zero (r ∷ l) d h = append-nil r
-flatten_next (suc i) (r ∷ l) d h =
-    ap (λ (s : List ℕ). r ++ s) (flatten_next i l d (omega arith)) ∙ sym (append_assoc r (flatten (take i l)) (get_or l i d))
 
 pub widened_wide : (union image : List ℕ) → Wide (length union) (widened_rows union image)
 unfolding widened_rows
@@ -113,10 +107,10 @@ module _ {image all cells₀ : List ℕ} (f : Source image all) (room : EmptyFor
     part_empty : (k : ℕ) → get_or part k 0 ≡ 0
     part_empty k = ap (λ (l : List ℕ). get_or l k 0) part_is ∙ take_empty (length all) (drop at cells₀) (λ j. get_or-drop at cells₀ j 0 ∙ room.empty (at + j)) k
 
-    module _ (indices row : List ℕ) (ep : indices ≡ indices_in union (image_ids image)) (er : row ≡ get_or (image_rows image) i []) where
+    module _ (accepted : image_number max_rows image ≡ 0) (indices row : List ℕ) (ep : indices ≡ indices_in union (image_ids image)) (er : row ≡ get_or (image_rows image) i []) where
       row_even : length row ≡ length (image_ids image)
       row_even =
-          let p = (passed_is max_rows image).0 f.accepted in
+          let p = (passed_is max_rows image).0 accepted in
           let n : length (image_rows image) ≡ row_count image = rows_length (column_count image) (row_count image) (cell_words image) in
           ap length er ∙ passed_rows max_rows image p (get_or (image_rows image) i []) (member-get [] (image_rows image) i (omega arith))
           ∙ sym (passed_ids max_rows image p)
@@ -137,7 +131,7 @@ module _ {image all cells₀ : List ℕ} (f : Source image all) (room : EmptyFor
           let n = widened_count union image in
           let next : new ≡ get_or rows i (widened union (image_ids image) []) =
           e ∙ ap₂ (λ (l r : List ℕ). scattered part l r) ep er
-          ∙ scatter_widened union (image_ids image) (get_or (image_rows image) i []) part f.covers.strict ((passed_is max_rows image).0 f.accepted).distinct_ids f.covers.has
+          ∙ scatter_widened union (image_ids image) (get_or (image_rows image) i []) part f.covers.strict ((passed_is max_rows image).0 accepted).distinct_ids f.covers.has
           (sym (ap length er) ∙ row_even) part_size part_empty
           ∙ sym (widened_row union image i) in
           let front : take at cells ≡ flatten (take i rows) =

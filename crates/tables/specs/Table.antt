@@ -6,6 +6,7 @@ use Rattle.definitions.specs.Limits.{max_columns, max_rows, max_union_rows}
 use Rattle.definitions.specs.Image.{rows_in, row_count}
 use Rattle.definitions.specs.OuterUnion.{widened_rows, union_ids, union_columns}
 use Rattle.definitions.specs.Questions.{image_number}
+use Rattle.rows.specs.declared.named.Rows.{Rows}
 use Rattle.tables.specs.declared.Table.{Table}
 use Rattle.tables.specs.UnionIds.{in_order, BothIds, Covers}
 
@@ -20,9 +21,8 @@ pub record Found (a b all : List ℕ) : Type 0 where
   pub ids : BothIds a b all
   pub few : length all ≤ max_columns
 
--- an accepted image, and few distinct ids, its own among them
+-- few distinct ids, an image's own among them
 pub record Source (image all : List ℕ) : Type 0 where
-  pub accepted : image_number max_rows image ≡ 0
   pub differ : distinct eqb all ≡ true
   pub covers : Covers (in_order all) image
   pub few : length all ≤ max_columns
@@ -35,13 +35,6 @@ pub record EmptyFor (image all cells : List ℕ) : Type 0 where
 -- the cells are the widened rows of an image
 abbrev pub Widened : List ℕ → List ℕ → List ℕ → Type 0
 Widened image all cells = cells ≡ flatten (widened_rows (in_order all) image)
-
--- n rows of so many cells, and the cells of a table to write them to
-pub record Unordered (width n : ℕ) (wide cells : List ℕ) : Type 0 where
-  pub few_columns : width ≤ max_columns
-  pub few_rows : n ≤ max_union_rows
-  pub fits : n * width ≤ length wide
-  pub room : max_union_rows * max_columns ≤ length cells
 
 -- a table with the union's columns, n of them, no rows and empty cells
 pub record NewTable (a b : List ℕ) (n : ℕ) (t : Table) : Type 0 where
@@ -56,6 +49,17 @@ pub record CellsOf (rows : List (List ℕ)) (width n : ℕ) (cells : List ℕ) :
   pub rows_are : rows_in width n cells ≡ rows
   pub few_rows : n ≤ max_union_rows
   pub all_cell_words : length cells ≡ max_union_rows * max_columns
+
+-- the column words of a table, as they are lent
+pub record LentWords (t : Table) (words : List ℕ) : Type 0 where
+  pub are : words ≡ take t.columns t.ids
+  pub size : length words ≡ t.columns
+
+-- and its rows
+pub record LentRows (t : Table) (rows : Rows) : Type 0 where
+  pub cells : rows.cells.now ≡ t.cells
+  pub width : rows.width ≡ t.columns
+  pub len : rows.len ≡ t.rows
 
 -- the table with these column words and rows
 pub record TableOf (t : Table) (union : List ℕ) (rows : List (List ℕ)) : Type 0 where

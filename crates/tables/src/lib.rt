@@ -1,16 +1,16 @@
 // The table in work, and the outer union of two accepted images in it.
 #![tactic(auto)]
 
-ghost use Rattle.std.specs.Prelude.{length};
-ghost use Rattle.tables.specs.Table.{NewTable};
+ghost use Rattle.std.specs.Prelude.{◌≤◌, length};
+ghost use Rattle.definitions.specs.Limits.{max_columns, max_union_rows};
 
 mod columns;
-mod image;
 mod union;
 mod widen;
 
 pub use columns::both_ids;
 use columns::union_columns;
+use rows::Rows;
 pub use union::Pair;
 
 // A table in work: its cells row by row, its column ids and both counts. With an id stands its mark: `ids` holds the column words.
@@ -21,9 +21,13 @@ pub struct Table {
     pub ids: [u32; Table::MAX_COLUMNS],
     pub rows: usize,
     pub columns: usize,
+    pub ghost few_columns: { columns ≤ max_columns },
+    pub ghost few_rows: { rows ≤ max_union_rows },
 }
 
 impl Table {
+    ghost use Rattle.tables.specs.Table.{NewTable, LentRows, LentWords};
+
     // The largest counts.
     pub const MAX_ROWS: usize = definitions::MAX_UNION_ROWS;
 
@@ -39,14 +43,33 @@ impl Table {
         columns: 0,
     };
 
-    // A table with the union's columns; it has no rows, and empty cells.
+    // A table with the union's columns; it has no rows, and empty cells. The calls put its rows into it themselves: returned with them, it would be
+    // copied.
     #[inline(always)]
     pub fn new(pair: &Pair) -> Table
-        ensures { NewTable pair.now.first.now pair.now.second.now (length pair.now.ids.now) result }
+        ensures { NewTable pair.now.first.words.now pair.now.second.words.now (length pair.now.ids.now) result }
     {
         let mut t = Self::EMPTY;
         union_columns(pair, &mut t.ids);
         t.columns = pair.ids.len();
         t
+    }
+
+    // Its column words.
+    pub fn column_words(&self) -> &[u32]
+        ensures { LentWords self.now result.now }
+    {
+        &self.ids[..self.columns]
+    }
+
+    // Its rows, of a cell for each column.
+    pub fn as_rows(&self) -> Rows<'_>
+        ensures { LentRows self.now result }
+    {
+        Rows {
+            cells: &self.cells,
+            width: self.columns,
+            len: self.rows,
+        }
     }
 }

@@ -94,7 +94,7 @@ impl<'a> Writer<'a> {
         self.length += text.len();
     }
 
-    // The decimal digits of `n`.
+    // The decimal digits of `n`. Not by `Display`: the firmware's archive has no formatter and no heap.
     pub fn number(&mut self, n: usize)
         requires { HasRoom self.old (decimal n) }
         ensures { Wrote self.old (decimal n) self.new }

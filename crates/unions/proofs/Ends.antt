@@ -1,8 +1,8 @@
 -- How a call with a table buffer alone ends: refused with the buffer as found, or done with its result over the front. Assumes nothing.
-use mathlib.Core.Path.{◌≡◌, refl, sym, ◌∙◌, ap, subst}
+use mathlib.Core.Path.{◌≡◌, sym, ◌∙◌, ap, ap₂, subst}
 use mathlib.Core.List.{List, ◌∷◌, flatten}
 use Prim.Native.Nat.{ℕ}
-use lib.ListN.{length, take}
+use lib.ListN.{length}
 use Rattle.definitions.specs.Image.{image_of}
 use Rattle.definitions.specs.MinimumUnion.{filled}
 use Rattle.definitions.specs.Answer.{Outcome, done, says, afterwards}
@@ -10,16 +10,14 @@ use Rattle.definitions.specs.Calls.{pair_outcome, enough_room}
 use Rattle.definitions.specs.Promise.{BufferPromise}
 use Rattle.std.proofs.Common.{Result, Ok, Err}
 use Rattle.definitions.specs.declared.refusal.Refusal.{Refusal}
-use Rattle.definitions.specs.Refusal.{question_number, table_number}
 use Rattle.images.specs.declared.write.Written.{Written}
-use Rattle.images.specs.Writing.{PutImage}
-use Rattle.rows.specs.Indices.{rows_at}
-use Rattle.tables.specs.declared.Table.{Table}
+use Rattle.images.specs.Writing.{chosen, PutImage}
+use Rattle.rows.specs.declared.named.Rows.{Rows}
 use Rattle.tables.specs.Table.{Found}
 use Rattle.tables.specs.declared.union.Pair.{Pair}
 use Rattle.unions.specs.Questions.{Checked}
 use Rattle.unions.proofs.Pairs.{pair_refused, pair_accepted}
-use Rattle.unions.proofs.Tables.{Rows}
+use Rattle.unions.proofs.Tables.{ImageRows}
 
 -- the pair is refused, and the call answers with that
 pub refused_pair : {a b : List ℕ} (q : Result Pair Refusal) → Checked a b q → (rest : Outcome) (image found : List ℕ) (r : Refusal) → q ≡ Err r
@@ -27,9 +25,9 @@ pub refused_pair : {a b : List ℕ} (q : Result Pair Refusal) → Checked a b q 
 refused_pair q c rest image found r e values answer f = record { answers = ap (says values) f ∙ pair_refused q c rest r e; writes = ap (λ (o : Outcome). afterwards o image found) (ap (says values) (sym f)) }
 
 -- the pair is accepted, the rows of the result are named by m indices, and question 10 is put
-module _ {a b all : List ℕ} (f : Found a b all) {u : List ℕ} {rows : List (List ℕ)} {t : Table} {order : List ℕ} {m : ℕ}
-    (s : Rows u rows t order m) {found after : List ℕ} {r : Result Written Refusal}
-    (p : PutImage (take t.columns t.ids) (rows_at t.columns t.cells (take m order)) m found r after) (more : List ℕ) where
+module _ {a b all : List ℕ} (f : Found a b all) {u : List ℕ} {rows : List (List ℕ)} {columns : List ℕ} {lent : Rows} {m : ℕ} {order : List ℕ}
+    (s : ImageRows u rows columns lent m order) {found after : List ℕ} {r : Result Written Refusal}
+    (p : PutImage columns (chosen lent order) (length order) found r after) (more : List ℕ) where
   abbrev image : List ℕ
   image = image_of u rows
 
@@ -37,13 +35,13 @@ module _ {a b all : List ℕ} (f : Found a b all) {u : List ℕ} {rows : List (L
   room_outcome = enough_room image (length found) (done (length rows ∷ length image ∷ filled (flatten rows) ∷ more))
 
   abbrev said : Result Written Refusal → Outcome
-  said = says (λ w. m ∷ w.words ∷ w.filled ∷ more)
+  said = says (λ w. length order ∷ w.words ∷ w.filled ∷ more)
 
   asked : BufferPromise room_outcome image found (said r) after
   asked =
-      let q : PutImage u rows m found r after =
-      subst (λ (x : List ℕ). PutImage x rows m found r after) s.ids
-      (subst (λ (l : List (List ℕ)). PutImage (take t.columns t.ids) l m found r after) s.are p) in
+      let q : PutImage u rows (length order) found r after =
+      subst (λ (x : List ℕ). PutImage x rows (length order) found r after) s.ids
+      (subst (λ (l : List (List ℕ)). PutImage columns l (length order) found r after) s.are p) in
       q.promise more
 
   -- what the answer says, by what the part said
@@ -59,4 +57,5 @@ module _ {a b all : List ℕ} (f : Found a b all) {u : List ℕ} {rows : List (L
   pub done_room : (w : Written) → r ≡ Ok w → (told : List ℕ) → told ≡ more
       → BufferPromise (pair_outcome a b room_outcome) image found (done (m ∷ w.words ∷ w.filled ∷ told)) after
   done_room w was told e =
-      subst (λ (l : List ℕ). BufferPromise (pair_outcome a b room_outcome) image found (done (m ∷ w.words ∷ w.filled ∷ l)) after) (sym e) (ended (Ok w) was)
+      subst (λ (l : List ℕ). BufferPromise (pair_outcome a b room_outcome) image found (done l) after)
+      (ap₂ (λ (k : ℕ) (l : List ℕ). k ∷ w.words ∷ w.filled ∷ l) s.count (sym e)) (ended (Ok w) was)

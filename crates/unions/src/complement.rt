@@ -13,12 +13,12 @@ fn fuse_accepted(
     table: &mut [u32],
     sets: &mut [u32],
 ) -> Result<ComplementCounts, Refusal>
-    ensures { ComplementPromise pair.now.first.now pair.now.second.now table.old sets.old
+    ensures { ComplementPromise pair.now.first.words.now pair.now.second.words.now table.old sets.old
         (complement_says result) table.new sets.new }
 {
     let mut t = Table::new(pair);
     t.rows = pair.union_rows(&mut t.cells);
-    fuse_table(&t.ids, t.columns, &t.cells, t.rows, table, sets)
+    fuse_table(&t, table, sets)
 }
 
 // A call that isn't refused meets demand 3.

@@ -1,4 +1,5 @@
-// The three unions of two table images. Each call writes its result into the lent buffers, or refuses and changes nothing.
+// The three unions of two table images. Each call writes its result into the lent buffers, or refuses and changes nothing. Each has the list of
+// ids that its pair lends, and so begins with the same two lines.
 #![tactic(auto)]
 
 mod complement;

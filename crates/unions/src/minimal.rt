@@ -8,17 +8,17 @@ use tables::{Pair, Table};
 
 // For an accepted pair.
 fn minimise_accepted(pair: &Pair, table: &mut [u32]) -> Result<MinimumCounts, Refusal>
-    ensures { MinimumPromise pair.now.first.now pair.now.second.now table.old (minimum_says result)
+    ensures { MinimumPromise pair.now.first.words.now pair.now.second.words.now table.old (minimum_says result)
         table.new }
 {
     let mut t = Table::new(pair);
     t.rows = pair.union_rows(&mut t.cells);
     let mut kept = [0u32; Table::MAX_ROWS];
-    let left = minimum::minimum_rows(&t.cells, t.rows, t.columns, &mut kept);
-    let rows = left.rows;
-    let put = images::put_image(&t.ids, t.columns, &t.cells, &kept, rows, table)?;
+    let rows = t.as_rows();
+    let left = minimum::minimum_rows(&rows, &mut kept);
+    let put = images::put_image(t.column_words(), &rows, &kept[..left.rows], table)?;
     Ok(MinimumCounts {
-        rows,
+        rows: left.rows,
         words: put.words,
         filled: put.filled,
         pairs: left.pairs,

@@ -8,17 +8,18 @@ use tables::{Pair, Table};
 
 // For an accepted pair.
 fn unite_accepted(pair: &Pair, table: &mut [u32]) -> Result<OuterCounts, Refusal>
-    ensures { OuterPromise pair.now.first.now pair.now.second.now table.old (outer_says result)
+    ensures { OuterPromise pair.now.first.words.now pair.now.second.words.now table.old (outer_says result)
         table.new }
 {
     let mut t = Table::new(pair);
     t.rows = pair.widen_both(&mut t.cells);
+    let rows = t.as_rows();
     let mut order = [0u32; Table::MAX_ROWS];
     let mut spare = [0u32; Table::MAX_ROWS];
-    let rows = rows::order_rows(&t.cells, t.columns, t.rows, &mut order, &mut spare);
-    let put = images::put_image(&t.ids, t.columns, &t.cells, &order, rows, table)?;
+    let count = rows.order_rows(&mut order[..rows.len], &mut spare);
+    let put = images::put_image(t.column_words(), &rows, &order[..count], table)?;
     Ok(OuterCounts {
-        rows,
+        rows: count,
         words: put.words,
         filled: put.filled,
     })

@@ -1,20 +1,10 @@
 // The questions 1 to 8, put to a pair of images, and 10 and 11, put to the lent buffers.
-ghost use Rattle.std.specs.Prelude.{◌≡◌, ◌≤◌, length};
-ghost use Rattle.definitions.specs.Limits.{max_ids, max_rows};
-ghost use Rattle.definitions.specs.Questions.{image_number};
-ghost use Rattle.definitions.specs.Refusal.{table_number};
-ghost use Rattle.definitions.specs.Answer.{Outcome, unless, or_refused};
+ghost use Rattle.std.specs.Prelude.{◌≤◌, length};
+ghost use Rattle.definitions.specs.Limits.{max_ids};
 ghost use Rattle.unions.specs.Questions.{Checked, Roomy};
 
 use definitions::{MAX_COLUMNS, MAX_ROWS, Question, Refusal, Subject};
 use tables::Pair;
-
-// Puts the questions 1 to 7 to one of the tables.
-fn check_source(image: &[u32], subject: Subject) -> Result<(), Refusal>
-    ensures { (rest : Outcome) → unless (image_number max_rows image.now) (table_number subject) rest ≡ or_refused result rest }
-{
-    images::check_image(image, MAX_ROWS as u32).map_err(|question| question.put_to(subject))
-}
 
 // Puts the questions 1 to 8; an accepted pair comes with the ids of both images, which are written over the list.
 pub(crate) fn check_pair<'a>(
@@ -25,20 +15,21 @@ pub(crate) fn check_pair<'a>(
     requires { max_ids ≤ length all.old }
     ensures { Checked a.now b.now result }
 {
-    check_source(a, Subject::First)?;
-    check_source(b, Subject::Second)?;
-    let columns = tables::both_ids(a, b, all);
+    let first = images::accept::<MAX_ROWS>(a, Subject::First)?;
+    let second = images::accept::<MAX_ROWS>(b, Subject::Second)?;
+    let columns = tables::both_ids(first, second, all);
     if MAX_COLUMNS < columns {
         return Err(Refusal::from(Question::UnionColumns));
     }
     Ok(Pair {
-        first: a,
-        second: b,
+        first,
+        second,
         ids: &all[..columns],
     })
 }
 
-// The questions 10 and 11, for so many words and so much room.
+// The questions 10 and 11, for so many words and so much room. `images::put_image` and the reader put 10 alone: a function for the one test
+// would be no shorter.
 pub(crate) fn check_room(
     words: usize,
     room: usize,

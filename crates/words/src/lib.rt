@@ -1,4 +1,5 @@
-// The fields of a 32-bit word of an image, by shifts and masks.
+// The fields of a 32-bit word of an image, by shifts and masks: each is a shift and a mask of its own, so that one function over both
+// would say no more.
 #![tactic(auto)]
 
 ghost use Rattle.std.specs.Prelude.{◌≡◌, ◌<◌, ◌%◌, ◌^◌};
@@ -6,7 +7,7 @@ ghost use Rattle.definitions.specs.Word.{kind_of, word_of, rows_of, columns_of, 
 ghost use Rattle.definitions.specs.Word.{column_word, is_cell};
 ghost use Rattle.definitions.specs.Image.{is_header};
 
-// The two top bits.
+// The two top bits. A kind is its number, which document 01 asks to be matched.
 pub fn kind(w: u32) -> u32
     ensures { result ≡ kind_of w }
 {

@@ -4,10 +4,11 @@ use Prim.Native.Nat.{◌-◌, ◌+◌}
 use mathlib.Core.Path.{◌≡◌, sym, ◌∙◌}
 use lib.Dec.{eqb}
 use lib.ListN.{length, take, drop, get_or}
+use Rattle.std.proofs.lemmas.List.{take_rest}
 use Rattle.definitions.specs.Lists.{any}
 use Rattle.definitions.specs.Word.{id_of}
 use mathlib.Core.List.{map}
-use Rattle.lists.proofs.Walks.{distinct_stop, distinct_go, distinct_end, part_tail}
+use Rattle.lists.proofs.Walks.{distinct_stop, distinct_go, distinct_end}
 use Rattle.images.proofs.distinct_ids.Goals as goal
 
 pub returns-then-has_id : goal.returns-then-has_id
@@ -17,7 +18,7 @@ returns-then-has_id c =
     ≡ c.has_id.result = let w = c.args.w.now in
     let i = c.loop-i.i in
     let e : c.has_id.result ≡ any (eqb c.id.result) (map id_of (take (length w - (i + 1)) (drop (i + 1) w))) = c.has_id.ensures in
-    sym (rw (part_tail w (i + 1), c.id.ensures) at e) in
+    sym (rw (take_rest w (i + 1), c.id.ensures) at e) in
     let l = c.loop-i in
     let a = c.args in
     sym (distinct_stop eqb id_of a.w.now l.i l.invariant (search rules) (tail_has ∙ c.if-has_id.true))
@@ -29,7 +30,7 @@ loop-i-preserved c =
     ≡ c.has_id.result = let w = c.args.w.now in
     let i = c.loop-i.i in
     let e : c.has_id.result ≡ any (eqb c.id.result) (map id_of (take (length w - (i + 1)) (drop (i + 1) w))) = c.has_id.ensures in
-    sym (rw (part_tail w (i + 1), c.id.ensures) at e) in
+    sym (rw (take_rest w (i + 1), c.id.ensures) at e) in
     let l = c.loop-i in
     let a = c.args in
     distinct_go eqb id_of a.w.now l.i l.invariant (search rules) (tail_has ∙ c.if-has_id.false)

@@ -12,31 +12,32 @@ use Rattle.minimum.proofs.minimum_rows.Goals as goal
 pub fill_fuller-requires-clause-counts_len_bound : goal.fill_fuller-requires-clause-counts_len_bound
 fill_fuller-requires-clause-counts_len_bound c =
     let counts = c.fill_counts.new.counts in
-    let long : length counts ≡ c.args.n = search (rules, c.fill_counts.auto.counts) in (
+    let t = c.args.rows.now in
+    let long : length counts ≡ t.len = search (rules, c.fill_counts.auto.counts) in (
       omega (arith, in_word c.requires.few_rows),
-      count_small c.args.width (length counts) c.args.cells.now counts c.fill_counts.ensures c.requires.few_columns,
+      count_small t.width t.len t.cells.now counts c.fill_counts.ensures c.requires.few_columns,
     )
 
 pub fill_columns-requires : goal.fill_columns-requires
 fill_columns-requires c =
-    (in_word c.requires.few_rows, c.requires.fits, columns_none c.args.width c.requires.few_columns)
+    (in_word c.requires.few_rows, columns_none c.args.rows.now.width c.requires.few_columns)
 
 pub invariant_of-trials : goal.invariant_of-trials
 invariant_of-trials c =
     let counts = c.fill_counts.new.counts in
-    let long : length counts ≡ c.args.n = search (rules, c.fill_counts.auto.counts) in
+    let t = c.args.rows.now in
     record {
       prepared = record {
-        few = rw long c.requires.few_rows;
-        fits = rw long c.requires.fits;
+        few = c.requires.few_rows;
+        size = search (rules, c.fill_counts.auto.counts);
         counted = c.fill_counts.ensures;
         room = λ j.
             omega (
               arith,
-              count_small c.args.width (length counts) c.args.cells.now counts c.fill_counts.ensures c.requires.few_columns j,
+              count_small t.width t.len t.cells.now counts c.fill_counts.ensures c.requires.few_columns j,
               c.fill_fuller.auto.words,
             );
         fuller_rows = c.fill_fuller.ensures;
-        filled_rows = rw long c.fill_columns.ensures;
+        filled_rows = c.fill_columns.ensures;
       };
     }

@@ -4,8 +4,5 @@ use Rattle.cliques.specs.Graph.{adjacent}
 use Rattle.cliques.specs.Parts.{Common}
 use Rattle.cliques.proofs.parts.common_rows.Given as goal
 
-abbrev pub invariant-loop-rest : goal.invariant-loop-rest
-invariant-loop-rest l = Sub l.rest l.part × Common (adjacent l.neighbours) l.part l.common
-
-abbrev pub decreases-loop-rest : goal.decreases-loop-rest
-decreases-loop-rest l = l.rest
+abbrev pub invariant-loop-row : goal.invariant-loop-row
+invariant-loop-row l = Sub l.row-iterator.rest l.part × Common (adjacent l.neighbours) l.part l.common

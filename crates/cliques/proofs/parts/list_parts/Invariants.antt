@@ -8,7 +8,7 @@ use Rattle.cliques.proofs.parts.list_parts.Given as goal
 
 abbrev pub invariant-loop-rest : goal.invariant-loop-rest
 invariant-loop-rest l =
-    ListedParts (row_of l.neighbours) (suc max_sets) word_bits l.rows l.initial.list l.list l.rest l.count
+    ListedParts (row_of l.neighbours) (suc max_sets) word_bits l.rows l.list l.rest l.count
 
 abbrev pub decreases-loop-rest : goal.decreases-loop-rest
 decreases-loop-rest l = l.rest

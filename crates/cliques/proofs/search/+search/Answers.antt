@@ -13,23 +13,19 @@ use Rattle.cliques.proofs.search.+search.Goals as goal
 
 pub returns-then-count-gt-MAX_SETS : goal.returns-then-count-gt-MAX_SETS
 returns-then-count-gt-MAX_SETS t c =
-    let s = c.args in
-    let r = c.requires in (
-      search rules,
-      refl,
+    let s = c.args in (
+      c.requires.few,
       run_stops (row_of s.neighbours.now) (suc max_sets) s.decided s.rest s.set s.count s.list.now
-          (omega (arith, r.room, r.few)) s.undecided (omega arith),
+          (search rules) s.undecided (omega arith),
     )
 
 pub returns-then-undecided-eq0 : goal.returns-then-undecided-eq0
 returns-then-undecided-eq0 t c =
     let s = c.args in
-    let r = c.requires in
     let few : s.count < suc max_sets = omega (arith, c.if-count-gt-MAX_SETS.false) in (
       omega (arith, c.append.ensures.0),
-      c.append.auto.list,
       run_lists (row_of s.neighbours.now) (suc max_sets) s.decided s.rest s.set s.count s.list.now
-          (omega (arith, r.room, r.few)) s.undecided c.if-undecided-eq0.true few _ c.append.ensures.1,
+          (search rules) s.undecided c.if-undecided-eq0.true few _ c.append.ensures.1,
     )
 
 pub lowest_row-i-requires : goal.lowest_row-i-requires
@@ -48,14 +44,14 @@ offset_bounds-neighbours-i t c =
     let turn = turn_of c.requires c.if-undecided-eq0.false (omega (arith, c.if-count-gt-MAX_SETS.false))
     c.lowest_row-i.ensures c.without_lowest-later.ensures c.with_row-known.ensures
     in
-    omega (arith, row_bit turn)
+    omega (arith, row_within turn)
 
 pub bounds-neighbours-i : goal.bounds-neighbours-i
 bounds-neighbours-i t c =
     let turn = turn_of c.requires c.if-undecided-eq0.false (omega (arith, c.if-count-gt-MAX_SETS.false))
     c.lowest_row-i.ensures c.without_lowest-later.ensures c.with_row-known.ensures
     in
-    row_bit turn
+    row_within turn
 
 pub with_row-grown-requires : goal.with_row-grown-requires
 with_row-grown-requires t c =
@@ -70,7 +66,7 @@ search-requires t c =
     c.lowest_row-i.ensures c.without_lowest-later.ensures c.with_row-known.ensures
     in (
       omega (arith, c.decreases, c.if-undecided-eq0.false),
-      ready_joins turn c.with_row-grown.result c.args.list.now c.args.count refl c.requires.few
+      ready_joins turn c.with_row-grown.result c.args.count c.requires.few
           (sym c.is_sub.ensures ∙ c.if-is_sub.true) c.with_row-grown.ensures,
     )
 
@@ -79,7 +75,7 @@ returns-then-is_sub t c =
     let turn = turn_of c.requires c.if-undecided-eq0.false (omega (arith, c.if-count-gt-MAX_SETS.false))
     c.lowest_row-i.ensures c.without_lowest-later.ensures c.with_row-known.ensures
     in
-    (c.search.ensures.0, c.search.ensures.1, run_joins turn _ (sym c.is_sub.ensures ∙ c.if-is_sub.true) c.with_row-grown.result c.with_row-grown.ensures c.search.ensures.2)
+    (c.search.ensures.0, run_joins turn c.args.list.now (search rules) _ (sym c.is_sub.ensures ∙ c.if-is_sub.true) c.with_row-grown.result c.with_row-grown.ensures c.search.ensures.1)
 
 pub may_take-requires : goal.may_take-requires
 may_take-requires t c =
@@ -102,7 +98,7 @@ search-found-requires t c =
     in
     let not-all : is_sub c.args.set (row_of c.args.neighbours.now c.lowest_row-i.result) ≡ false = sym c.is_sub.ensures ∙ c.if-is_sub.false in (
       omega (arith, c.decreases, c.if-undecided-eq0.false),
-      ready_takes turn c.take_row-next.result c.args.list.now c.args.count refl c.requires.few
+      ready_takes turn c.take_row-next.result c.args.count c.requires.few
           not-all (c.may_take.ensures.yes c.if-may_take.true) c.take_row-next.ensures,
     )
 
@@ -113,8 +109,7 @@ search-requires-then-may_take t c =
     in
     let not-all : is_sub c.args.set (row_of c.args.neighbours.now c.lowest_row-i.result) ≡ false = sym c.is_sub.ensures ∙ c.if-is_sub.false in (
       omega (arith, c.decreases, c.if-undecided-eq0.false),
-      ready_leaves turn c.args.set c.search-found.new.list c.search-found.result
-          c.search-found.ensures.1 c.search-found.ensures.0 not-all refl,
+      ready_leaves turn c.args.set c.search-found.result c.search-found.ensures.0 not-all refl,
     )
 
 pub returns-then-may_take : goal.returns-then-may_take
@@ -124,9 +119,8 @@ returns-then-may_take t c =
     in
     let not-all : is_sub c.args.set (row_of c.args.neighbours.now c.lowest_row-i.result) ≡ false = sym c.is_sub.ensures ∙ c.if-is_sub.false in (
       c.search-then-may_take.ensures.0,
-      c.search-then-may_take.ensures.1 ∙ c.search-found.ensures.1,
-      run_takes turn _ not-all (c.may_take.ensures.yes c.if-may_take.true)
-          c.take_row-next.result c.take_row-next.ensures _ c.search-found.ensures.2 c.search-then-may_take.ensures.2,
+      run_takes turn c.args.list.now (search rules) _ not-all (c.may_take.ensures.yes c.if-may_take.true)
+          c.take_row-next.result c.take_row-next.ensures _ c.search-found.ensures.1 c.search-then-may_take.ensures.1,
     )
 
 pub search-requires-2 : goal.search-requires-2
@@ -136,7 +130,7 @@ search-requires-2 t c =
     in
     let not-all : is_sub c.args.set (row_of c.args.neighbours.now c.lowest_row-i.result) ≡ false = sym c.is_sub.ensures ∙ c.if-is_sub.false in (
       omega (arith, c.decreases, c.if-undecided-eq0.false),
-      ready_leaves turn c.args.set c.args.list.now c.args.count refl c.requires.few
+      ready_leaves turn c.args.set c.args.count c.requires.few
           not-all refl,
     )
 
@@ -146,4 +140,4 @@ returns t c =
     c.lowest_row-i.ensures c.without_lowest-later.ensures c.with_row-known.ensures
     in
     let not-all : is_sub c.args.set (row_of c.args.neighbours.now c.lowest_row-i.result) ≡ false = sym c.is_sub.ensures ∙ c.if-is_sub.false in
-    (c.search-2.ensures.0, c.search-2.ensures.1, run_leaves turn _ not-all (c.may_take.ensures.no c.if-may_take.false) c.search-2.ensures.2)
+    (c.search-2.ensures.0, run_leaves turn c.args.list.now (search rules) _ not-all (c.may_take.ensures.no c.if-may_take.false) c.search-2.ensures.1)

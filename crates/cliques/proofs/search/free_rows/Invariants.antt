@@ -7,9 +7,7 @@ use Rattle.cliques.specs.Graph.{adjacent}
 use Rattle.cliques.specs.Search.{FreeRows}
 use Rattle.cliques.proofs.search.free_rows.Given as goal
 
-abbrev pub invariant-loop-rest : goal.invariant-loop-rest
-invariant-loop-rest l =
-    Inside l.rest (length l.neighbours) × ((r : ℕ) → FreeRows (adjacent l.neighbours) l.rest l.word r → FreeRows (adjacent l.neighbours) l.set l.start r)
-
-abbrev pub decreases-loop-rest : goal.decreases-loop-rest
-decreases-loop-rest l = l.rest
+abbrev pub invariant-loop-row : goal.invariant-loop-row
+invariant-loop-row l =
+    Inside l.row-iterator.rest (length l.neighbours)
+    × ((r : ℕ) → FreeRows (adjacent l.neighbours) l.row-iterator.rest l.word r → FreeRows (adjacent l.neighbours) l.set l.start r)

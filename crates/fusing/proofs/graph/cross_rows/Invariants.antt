@@ -4,4 +4,4 @@ use Rattle.fusing.proofs.Crossing.{CrossingTo}
 use Rattle.fusing.proofs.graph.cross_rows.Given as goal
 
 abbrev pub invariant-loop-j : goal.invariant-loop-j
-invariant-loop-j l = CrossingTo l.t.column_words.now (rows_of l.t) l.neighbours l.j
+invariant-loop-j l = CrossingTo l.t.column_words.now (rows_of l.t) l.crossed-items l.j

@@ -1,6 +1,5 @@
 -- `fill_neighbours` meets its contract: rows that cross and agree complement each other.
 use native.Mathlib.Omega.{arith}
-use lib.ListN.{length}
 use Rattle.definitions.proofs.Images.{rows_length}
 use Rattle.fusing.specs.UnionRows.{rows_of}
 use Rattle.fusing.proofs.Neighbours.{graph_of}
@@ -12,4 +11,4 @@ returns c =
     let x = c.cross_rows in
     let n = c.narrow_columns in
     graph_of t.column_words.now (rows_of t) _ _ x.ensures n.ensures
-    (omega (arith, rows_length (length t.column_words.now) t.len t.cells.now, n.auto.neighbours, x.auto.neighbours, c.requires.1))
+    (omega (arith, rows_length t.rows.width t.rows.len t.rows.cells.now, n.auto.neighbours, x.auto.neighbours, c.requires.1))

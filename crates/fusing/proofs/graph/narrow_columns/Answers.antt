@@ -1,8 +1,8 @@
 -- `narrow_columns` meets its contract: the filled rows of the next column are rows of T.
 use mathlib.Core.Path.{refl}
 use native.Mathlib.Omega.{arith}
-use lib.ListN.{length, get_or}
-use Rattle.fusing.proofs.HeldRows.{columns_of, filled_inside}
+use lib.ListN.{get_or}
+use Rattle.fusing.proofs.HeldRows.{filled_inside}
 use Rattle.fusing.proofs.Narrowing.{narrowed_turn, narrowed_end}
 use Rattle.fusing.proofs.graph.narrow_columns.Goals as goal
 
@@ -11,21 +11,21 @@ narrow_rows-requires c =
     let t = c.args.t.now in
     let l = c.loop-c in
     let room = c.requires in (
-      c.group_rows.ensures.led,
-      λ k h. omega (arith, filled_inside t l.c (omega (arith, t.one_word_each)) k h, t.few, c.group_rows.auto.leaders),
-      λ k h. omega (arith, filled_inside t l.c (omega (arith, t.one_word_each)) k h, room, l.auto.neighbours),
+      c.fill.ensures.led,
+      λ k h. omega (arith, filled_inside t l.c (omega (arith, t.one_word_each, t.one_cell_each)) k h, t.few, c.fill.new.self.leader_each),
+      λ k h. omega (arith, filled_inside t l.c (omega (arith, t.one_word_each, t.one_cell_each)) k h, room, l.auto.neighbours),
     )
 
 pub loop-c-preserved : goal.loop-c-preserved
 loop-c-preserved c =
     let t = c.args.t.now in
     let l = c.loop-c in
-    narrowed_turn (length t.column_words.now) t.len t.cells.now t.columns.now c.args.neighbours.now t.few t.fits (columns_of t)
-    l.c (get_or t.columns.now l.c 0) _ _ l.neighbours _ (omega (arith, t.one_word_each)) refl c.group_rows.ensures c.narrow_rows.ensures l.invariant
+    narrowed_turn t.rows.width t.rows.len t.rows.cells.now t.columns.now c.args.neighbours.now t.few t.rows.fits t.filled
+    l.c (get_or t.columns.now l.c 0) _ _ l.neighbours _ (omega (arith, t.one_word_each, t.one_cell_each)) refl c.fill.ensures c.narrow_rows.ensures l.invariant
 
 pub returns : goal.returns
 returns c =
     let t = c.args.t.now in
     let l = c.loop-c in
-    narrowed_end (length t.column_words.now) t.len t.cells.now t.columns.now c.args.neighbours.now t.few t.fits (columns_of t)
-    l.c l.neighbours (omega (arith, t.one_word_each)) l.invariant
+    narrowed_end t.rows.width t.rows.len t.rows.cells.now t.columns.now c.args.neighbours.now t.few t.rows.fits t.filled
+    l.c l.neighbours (omega (arith, t.one_word_each, t.one_cell_each)) l.invariant

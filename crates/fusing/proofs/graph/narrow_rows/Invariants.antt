@@ -3,4 +3,4 @@ use Rattle.fusing.proofs.Narrowing.{Narrowing}
 use Rattle.fusing.proofs.graph.narrow_rows.Given as goal
 
 abbrev pub invariant-loop-j : goal.invariant-loop-j
-invariant-loop-j l = Narrowing l.filled l.leaders l.equal l.initial.neighbours l.j-iterator.rest l.neighbours
+invariant-loop-j l = Narrowing l.filled l.groups.leaders l.groups.equal l.initial.neighbours l.j-iterator.rest l.neighbours

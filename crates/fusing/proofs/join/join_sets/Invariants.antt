@@ -1,7 +1,6 @@
 -- `join_sets` meets its contract. The loop's invariant: the joined rows of the sets passed stand one after the other.
 use mathlib.Core.List.{flatten}
 use Prim.Native.Nat.{◌*◌}
-use lib.ListN.{length}
 use Rattle.lists.proofs.Pastes.{Pasted}
 use Rattle.fusing.specs.Fused.{joined_rows}
 use Rattle.fusing.specs.UnionRows.{rows_of}
@@ -9,4 +8,4 @@ use Rattle.fusing.proofs.join.join_sets.Given as goal
 
 abbrev pub invariant-loop-k : goal.invariant-loop-k
 invariant-loop-k l =
-    Pasted l.initial.out 0 (flatten (joined_rows l.t.column_words.now (rows_of l.t))) (l.k * length l.t.column_words.now) l.out
+    Pasted l.initial.out 0 (flatten (joined_rows l.t.column_words.now (rows_of l.t))) (l.k * l.t.rows.width) l.out

@@ -2,44 +2,45 @@
 use mathlib.Core.Path.{sym, ◌∙◌, subst}
 use Prim.Native.Nat.{◌+◌}
 use native.Mathlib.Omega.{arith}
-use lib.ListN.{length}
-use Rattle.definitions.specs.Image.{rows_in}
+use Rattle.std.proofs.lemmas.List.{set-get_or}
 use Rattle.rows.specs.Indices.{rows_at}
+use Rattle.rows.specs.Rows.{rows_of}
+use Rattle.rows.proofs.Positions.{ordered_ascending}
 use Rattle.fusing.specs.Positions.{positions_in}
-use Rattle.fusing.proofs.RowPositions.{Placed, position_listed, position_member, placed_turn, placed_stay, placed_end}
+use Rattle.fusing.proofs.RowPositions.{Placed, position_member, placed_turn, placed_stay, placed_end}
 use Rattle.fusing.proofs.positions.find_positions.Goals as goal
-use Rattle.fusing.proofs.positions.find_positions.Goals.{then-positions-k, else-positions-k}
+use Rattle.fusing.proofs.positions.find_positions.Goals.{then-position-order, else-position-order}
 
 pub position_of-requires : goal.position_of-requires
 position_of-requires c =
-    let a = c.args in
-    let n = length a.positions.now in
-    let k = c.loop-k.k in (
-      (omega arith),
-      position_listed a.width n a.cells.now a.order.now c.requires.fits c.requires.ordered k (omega (arith, c.fill_own.auto.positions)),
-      position_member a.width n a.cells.now a.order.now c.requires.fits c.requires.ordered k (omega (arith, c.fill_own.auto.positions)),
+    let t = c.args.rows.now in
+    let order = c.args.order.now in
+    let o = c.requires.0.ordered in (
+      ordered_ascending t.width t.len t.cells.now order o t.fits,
+      position_member t.width t.len t.cells.now order t.fits o _ (omega (arith, c.fill_own.auto.positions, c.requires.1)) _ c.row.ensures.at,
     )
 
 pub loop-k-preserved : goal.loop-k-preserved
 loop-k-preserved c =
-    let a = c.args in
+    let t = c.args.rows.now in
+    let order = c.args.order.now in
+    let o = c.requires.0.ordered in
     let l = c.loop-k in
-    let n = length a.positions.now in
-    let all = positions_in (rows_at a.width a.cells.now a.order.now) (rows_in a.width n a.cells.now) in
-    elim c.if-positions-k.branch [
-      | then-positions-k w ↦
-          subst (Placed a.order.now all (l.k + 1)) (sym w.positions-is)
-          (placed_turn a.width n a.cells.now a.order.now c.requires.fits c.requires.ordered l.k (omega (arith, c.fill_own.auto.positions)) l.positions
+    let all = positions_in (rows_at t.width t.cells.now order) (rows_of t) in
+    elim c.if-position-order.branch [
+      | then-position-order w ↦
+          subst (Placed order all (l.k + 1)) (sym w.positions-is)
+          (placed_turn t.width t.len t.cells.now order t.fits o l.k (omega (arith, c.fill_own.auto.positions, c.requires.1)) _ w.row.ensures.at l.positions
           w.position_of.result (omega (arith, l.auto.positions)) w.position_of.ensures.0 l.invariant)
-      | else-positions-k w ↦
-          subst (Placed a.order.now all (l.k + 1)) (sym w.positions-is)
-          (placed_stay a.width n a.cells.now a.order.now c.requires.fits c.requires.ordered l.positions l.k (omega (arith, c.fill_own.auto.positions))
-          (omega (arith, l.auto.positions)) w.if-positions-k.false l.invariant)
+      | else-position-order w ↦
+          subst (Placed order all (l.k + 1)) (sym (w.positions-is ∙ set-get_or l.positions l.k 0))
+          (placed_stay t.width t.len t.cells.now order t.fits o l.positions l.k (omega (arith, c.fill_own.auto.positions, c.requires.1))
+          (omega (arith, l.auto.positions)) w.if-position-order.false l.invariant)
     ]
 
 pub returns : goal.returns
 returns c =
-    let a = c.args in
+    let t = c.args.rows.now in
     let l = c.loop-k in
-    placed_end a.width (length a.positions.now) a.cells.now a.order.now c.requires.fits c.requires.ordered l.positions l.k
-    (l.auto.positions ∙ c.fill_own.auto.positions) (omega (arith, c.fill_own.auto.positions)) l.invariant
+    placed_end t.width t.len t.cells.now c.args.order.now t.fits c.requires.0.ordered l.positions l.k
+    (l.auto.positions ∙ c.fill_own.auto.positions ∙ c.requires.1) (omega (arith, c.fill_own.auto.positions, c.requires.1)) l.invariant

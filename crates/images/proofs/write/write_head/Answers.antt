@@ -2,14 +2,14 @@
 use mathlib.Core.Path.{refl, ◌∙◌, ap}
 use mathlib.Core.List.{◌∷◌}
 use Prim.Native.Nat.{ℕ, ◌+◌}
-use lib.ListN.{take}
+use lib.ListN.{length}
 use lib.Seq.{paste}
-use Rattle.lists.proofs.Pastes.{paste_taken}
 use Rattle.images.proofs.Writing.{head_written}
 use Rattle.images.proofs.write.write_head.Goals as goal
 
 pub returns : goal.returns
 returns c =
     let s = c.args in
-    head_written s.buffer.now _ _ s.column_words.now _ s.n c.requires.0 c.requires.1 refl (c.write_over.ensures ∙ paste_taken _ s.column_words.now 1 s.n c.requires.0)
-    ∙ ap (λ (h : ℕ). paste s.buffer.now 0 (h ∷ take s.n s.column_words.now) (1 + s.n)) c.header_word.ensures
+    let w = s.column_words.now in
+    head_written s.buffer.now _ _ w _ c.requires.0 refl c.write_over.ensures
+    ∙ ap (λ (h : ℕ). paste s.buffer.now 0 (h ∷ w) (1 + length w)) c.header_word.ensures

@@ -1,32 +1,20 @@
--- The positions so far are written: a marked one adds its text, another one nothing.
-use Rattle.std.proofs.Common.{sym, arith, [], append-nil, ◌∙◌}
-use lib.Bits.{and_mask}
-use Rattle.text.proofs.Writing.{wrote_as, then_wrote, none_wrote, first_fits, behind_fits, counted_start, counted_turn, counted_fits, counted_end}
-use Rattle.listing.proofs.SetLines.{record_positions, marked, unmarked}
+-- The positions of the words so far are written, and those of a word behind them.
+use Rattle.std.proofs.Common.{refl, arith}
+use Rattle.listing.proofs.SetLines.{marks_start, word_fits, word_turn, marks_end}
 use Rattle.listing.proofs.sets.put_positions.Goals as goal
-use Rattle.listing.proofs.sets.put_positions.Goals.{then-mark-eq1, else-mark-eq1}
 
-pub loop-p-init : goal.loop-p-init
-loop-p-init c = counted_start _ _ _ _ c.requires
+pub loop-i-init : goal.loop-i-init
+loop-i-init c = marks_start _ _ c.requires.room
 
-pub number-requires : goal.number-requires
-number-requires c =
-    first_fits _ (marked c.args.set.now c.loop-p.p _ (and_mask _ 1) c.if-mark-eq1.true)
-    (counted_fits c.loop-p.invariant (omega arith) [] (record_positions _ ∙ sym (append-nil _)) c.requires)
+pub put_word-requires : goal.put_word-requires
+put_word-requires c =
+    record {
+      room = word_fits c.loop-i.invariant (omega arith) _ refl c.requires.room;
+      from = omega (arith, c.requires.few);
+    }
 
-pub space-requires : goal.space-requires
-space-requires c =
-    behind_fits (marked c.args.set.now c.loop-p.p _ (and_mask _ 1) c.if-mark-eq1.true)
-    (counted_fits c.loop-p.invariant (omega arith) [] (record_positions _ ∙ sym (append-nil _)) c.requires) c.number.ensures
-
-pub loop-p-preserved : goal.loop-p-preserved
-loop-p-preserved c =
-    elim c.if-mark-eq1.branch [
-      | then-mark-eq1 w ↦ rw w.out-is (counted_turn c.loop-p.invariant (omega arith)
-          (wrote_as (sym (marked c.args.set.now c.loop-p.p _ (and_mask _ 1) w.if-mark-eq1.true)) (then_wrote w.number.ensures w.space.ensures)))
-      | else-mark-eq1 w ↦ rw w.out-is (counted_turn c.loop-p.invariant (omega arith)
-          (wrote_as (sym (unmarked c.args.set.now c.loop-p.p _ (and_mask _ 1) w.if-mark-eq1.false)) (none_wrote c.loop-p.invariant.each.wrote)))
-    ]
+pub loop-i-preserved : goal.loop-i-preserved
+loop-i-preserved c = word_turn c.loop-i.invariant (omega arith) _ refl c.put_word.ensures
 
 pub returns : goal.returns
-returns c = wrote_as (sym (record_positions _)) (counted_end c.loop-p.invariant (omega arith))
+returns c = marks_end c.loop-i.invariant (omega arith)

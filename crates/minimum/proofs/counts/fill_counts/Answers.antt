@@ -5,5 +5,6 @@ use Rattle.minimum.proofs.counts.fill_counts.Goals as goal
 
 pub loop-i-preserved : goal.loop-i-preserved
 loop-i-preserved c =
+    let t = c.args.rows.now in
     let l = c.loop-i in
-    counts_turn c.args.width l.i c.args.cells.now l.counts c.count_filled.result (omega arith) l.invariant c.count_filled.ensures
+    counts_turn t.width l.i t.cells.now _ l.counts _ (omega arith) l.invariant c.row.ensures.at c.count_filled.ensures

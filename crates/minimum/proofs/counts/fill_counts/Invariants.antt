@@ -7,4 +7,4 @@ use Rattle.definitions.specs.MinimumUnion.{filled}
 use Rattle.minimum.proofs.counts.fill_counts.Given as goal
 
 abbrev pub invariant-loop-i : goal.invariant-loop-i
-invariant-loop-i l = take l.i l.counts ≡ map filled (rows_in l.width l.i l.cells)
+invariant-loop-i l = take l.i l.counts ≡ map filled (rows_in l.rows.width l.i l.rows.cells.now)

@@ -1,31 +1,11 @@
--- The ids of the band, and line after line.
-use Rattle.std.proofs.Common.{refl, sym, [], append-nil, arith}
-use Rattle.definitions.specs.Page.{band_page}
-use Rattle.text.proofs.Writing.{wrote_as, then_wrote, room_as, first_fits, behind_fits, counted_start, counted_turn, counted_fits, counted_end}
-use Rattle.pages.proofs.Bands.{ids_shown}
+-- A page is a part of a band.
+use Rattle.std.proofs.Common.{sym}
+use Rattle.text.proofs.Writing.{wrote_as, room_as}
+use Rattle.pages.proofs.Bands.{page_is}
 use Rattle.pages.proofs.layout.put_page.Goals as goal
 
-pub id_line-requires-clause-room : goal.id_line-requires-clause-room
-unfolding band_page
-id_line-requires-clause-room c =
-    room_as (sym (ids_shown c.args.image.now c.args.band _ c.columns-columns.ensures _ c.in_band.ensures)) (first_fits _ refl c.requires.room)
-
-pub loop-i-init : goal.loop-i-init
-unfolding band_page
-loop-i-init c =
-    counted_start _ _ _ _ (behind_fits refl c.requires.room (wrote_as (ids_shown c.args.image.now c.args.band _ c.columns-columns.ensures _ c.in_band.ensures) c.id_line.ensures))
-
-pub put_line-requires-clause-room : goal.put_line-requires-clause-room
-unfolding band_page
-put_line-requires-clause-room c =
-    counted_fits c.loop-i.invariant (omega arith) [] (sym (append-nil _))
-    (behind_fits refl c.requires.room (wrote_as (ids_shown c.args.image.now c.args.band _ c.columns-columns.ensures _ c.in_band.ensures) c.id_line.ensures))
-
-pub loop-i-preserved : goal.loop-i-preserved
-loop-i-preserved c = counted_turn c.loop-i.invariant (omega arith) c.put_line.ensures
+pub put_part-requires-clause-room : goal.put_part-requires-clause-room
+put_part-requires-clause-room c = room_as (page_is c.args.image.words.now c.args.n _ c.band_pages-parts.ensures) c.requires.room
 
 pub returns : goal.returns
-unfolding band_page
-returns c =
-    then_wrote (wrote_as (ids_shown c.args.image.now c.args.band _ c.columns-columns.ensures _ c.in_band.ensures) c.id_line.ensures)
-    (counted_end c.loop-i.invariant (omega arith))
+returns c = wrote_as (sym (page_is c.args.image.words.now c.args.n _ c.band_pages-parts.ensures)) c.put_part.ensures

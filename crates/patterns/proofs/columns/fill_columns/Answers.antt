@@ -4,5 +4,6 @@ use Rattle.patterns.proofs.columns.fill_columns.Goals as goal
 
 pub loop-j-preserved : goal.loop-j-preserved
 loop-j-preserved c =
-    let s = c.args in
-    columns_more s.width s.n c.loop-j.j s.cells.now c.requires.1 c.loop-j-test.true c.loop-j.columns _ c.loop-j.invariant c.add_row.ensures
+    let t = c.args.rows.now in
+    let l = c.loop-j in
+    columns_more t.width t.len l.j t.cells.now c.row.result.now t.fits c.loop-j-test.true c.row.ensures.at l.columns _ l.invariant c.add_row.ensures

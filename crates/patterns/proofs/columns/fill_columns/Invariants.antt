@@ -4,4 +4,4 @@ use Rattle.patterns.specs.Columns.{ColumnsOf}
 use Rattle.patterns.proofs.columns.fill_columns.Given as goal
 
 abbrev pub invariant-loop-j : goal.invariant-loop-j
-invariant-loop-j l = ColumnsOf (rows_in l.width l.j l.cells) l.width l.columns
+invariant-loop-j l = ColumnsOf (rows_in l.rows.width l.j l.rows.cells.now) l.rows.width l.columns

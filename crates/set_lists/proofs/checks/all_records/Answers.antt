@@ -4,7 +4,7 @@ use Rattle.std.proofs.lemmas.Iterator.{YieldsList-from_slice}
 use Rattle.std.proofs.lemmas.Iterator.Search.{all_from_yields_List}
 use Rattle.definitions.specs.Limits.{mark_words}
 use Rattle.definitions.specs.ReadBack.{is_record}
-use Rattle.set_lists.proofs.Tests.{all_is}
+use Rattle.lists.proofs.Chains.{all_is}
 use Rattle.set_lists.proofs.checks.all_records.Goals as goal
 
 pub returns : goal.returns

@@ -1,26 +1,24 @@
 -- `write_positions` meets its contract: what is written so far, and the positions of the bits that are left, are those of the word.
 use native.Mathlib.Omega.{arith}
-use Rattle.bitsets.proofs.Bits.{rest_less}
 use Rattle.set_lists.proofs.Positions.{word_start, bit_small, bit_fits, bit_turn, word_end}
 use Rattle.set_lists.proofs.members.write_positions.Goals as goal
 
-pub loop-rest-init : goal.loop-rest-init
-loop-rest-init c = word_start _ _ _ _ (omega arith) c.low_bits-rest.ensures
+pub loop-count-init : goal.loop-count-init
+loop-count-init c = rw (c.into_iter-count-iterator.ensures.into_iter_gives, c.enumerate-count-items.ensures.source, c.enumerate-count-items.ensures.count, c.of.ensures) (word_start _ _ _ _ (omega arith) c.low_bits-marks.ensures)
 
 pub overflow_cast-out : goal.overflow_cast-out
-overflow_cast-out c = omega (arith, bit_small c.loop-rest.invariant (omega arith) c.lowest_row.ensures)
+overflow_cast-out c = omega (arith, bit_small c.loop-count.invariant c.in-Some.ensures.steps.0)
 
 pub overflow_add-out : goal.overflow_add-out
-overflow_add-out c = omega (arith, bit_small c.loop-rest.invariant (omega arith) c.lowest_row.ensures)
+overflow_add-out c = omega (arith, bit_small c.loop-count.invariant c.in-Some.ensures.steps.0)
 
 pub bounds-out-count : goal.bounds-out-count
-bounds-out-count c = bit_fits c.loop-rest.invariant (omega arith)
+bounds-out-count c = omega (arith, bit_fits c.loop-count.invariant c.in-Some.ensures.steps.0, c.in-Some.ensures.steps.1)
 
-pub loop-rest-smaller : goal.loop-rest-smaller
-loop-rest-smaller c = omega (arith, rest_less c.loop-rest.rest (omega arith), c.without_lowest-rest.ensures)
-
-pub loop-rest-preserved : goal.loop-rest-preserved
-loop-rest-preserved c = bit_turn c.loop-rest.invariant (omega arith) c.lowest_row.ensures c.without_lowest-rest.ensures
+pub loop-count-preserved : goal.loop-count-preserved
+loop-count-preserved c =
+    let steps = c.in-Some.ensures.steps in
+    rw (steps.2, steps.1) (bit_turn c.loop-count.invariant steps.0)
 
 pub returns : goal.returns
-returns c = word_end c.loop-rest.invariant (omega arith)
+returns c = word_end c.loop-count.invariant c.in-None.ensures.steps.0 c.low_bits-marks.ensures

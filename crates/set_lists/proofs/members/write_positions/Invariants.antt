@@ -2,8 +2,5 @@
 use Rattle.set_lists.proofs.Positions.{WordWritten}
 use Rattle.set_lists.proofs.members.write_positions.Given as goal
 
-abbrev pub invariant-loop-rest : goal.invariant-loop-rest
-invariant-loop-rest l = WordWritten l.from l.w l.initial.out l.rest l.out l.count
-
-abbrev pub decreases-loop-rest : goal.decreases-loop-rest
-decreases-loop-rest l = l.rest
+abbrev pub invariant-loop-count : goal.invariant-loop-count
+invariant-loop-count l = WordWritten l.from l.w l.initial.out l.count-iterator.iter.rest l.out l.count-iterator.count

@@ -5,8 +5,8 @@ use Prim.Native.Nat.{ℕ}
 use native.Mathlib.Omega.{arith}
 use lib.ListN.{length-map}
 use lib.Seq.{ext_get_or}
+use Rattle.std.proofs.lemmas.List.{get_or-map}
 use Rattle.definitions.specs.Word.{id_of}
-use Rattle.definitions.proofs.Lists.{map_at}
 use Rattle.tables.specs.UnionIds.{smaller_than, indices_in}
 use Rattle.tables.proofs.widen.column_indices.Goals as goal
 
@@ -21,5 +21,5 @@ returns c =
     let size = l.auto.indices in
     let end = c.loop-j-test.false in
     ext_get_or 0 l.indices (indices_in union ids) (omega (arith, c.requires.0)) (λ k h.
-    l.invariant k (omega (arith, c.requires.0)) ∙ ap (λ (id : ℕ). smaller_than id union) (sym (map_at id_of 0 0 columns k (omega (arith, c.requires.0))))
-    ∙ sym (map_at (λ id. smaller_than id union) 0 0 ids k (omega (arith, c.requires.0))))
+    l.invariant k (omega (arith, c.requires.0)) ∙ ap (λ (id : ℕ). smaller_than id union) (sym (get_or-map id_of columns k 0 0 (omega (arith, c.requires.0))))
+    ∙ sym (get_or-map (λ id. smaller_than id union) ids k 0 0 (omega (arith, c.requires.0))))

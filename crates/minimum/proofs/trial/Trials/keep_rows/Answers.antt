@@ -2,7 +2,7 @@
 use mathlib.Core.Path.{◌∙◌, ap}
 use mathlib.Core.Bool.{not}
 use native.Mathlib.Omega.{arith}
-use Rattle.minimum.specs.Trials.{rows_of}
+use Rattle.rows.specs.Rows.{rows_of}
 use Rattle.minimum.proofs.OtherRows.{found_some}
 use Rattle.minimum.proofs.Keeping.{kept_none, subsumed_left, unsubsumed_kept, kept_rows}
 use Rattle.minimum.proofs.trial.Trials.keep_rows.Goals as goal
@@ -10,7 +10,7 @@ use Rattle.minimum.proofs.trial.Trials.keep_rows.Goals.{then-is_none, else-is_no
 
 pub loop-k-init : goal.loop-k-init
 loop-k-init c =
-    let t = c.args.self.now in
+    let t = c.args.self.now.rows in
     kept_none t.width _ t.cells.now c.args.kept.now
 
 pub loop-k-preserved : goal.loop-k-preserved
@@ -18,7 +18,7 @@ loop-k-preserved c =
     let l = c.loop-k in
     let p = c.args.self.now.prepared in
     let tried = c.tries-pairs.ensures in
-    let found = found_some (rows_of c.args.self.now) l.k c.subsumer-subsumer.result c.subsumer-subsumer.ensures in
+    let found = found_some (rows_of c.args.self.now.rows) l.k c.subsumer-subsumer.result c.subsumer-subsumer.ensures in
     elim c.if-is_none.branch [
       | then-is_none w ↦
           rw (w.kept-is, w.rows-is)

@@ -8,10 +8,10 @@ use Rattle.minimum.proofs.trial.Trials.subsumer.Goals as goal
 use Rattle.minimum.proofs.trial.Trials.subsumer.Goals.{else-loop-c-test, then-loop-c-test+then-not-covered}
 
 pub for_row-rest-requires : goal.for_row-rest-requires
-for_row-rest-requires c = omega (arith, ap length c.row-row.ensures, own_short c.args.self.now c.args.k c.requires)
+for_row-rest-requires c = omega (arith, ap length c.row-row.ensures.listed, own_short c.args.self.now c.args.k c.requires)
 
 pub rows-init : goal.rows-init
-rows-init c = left_all c.args.self.now c.args.k c.requires c.for_row-rest.result (rw c.row-row.ensures at c.for_row-rest.ensures)
+rows-init c = left_all c.args.self.now c.args.k c.requires c.for_row-rest.result (rw c.row-row.ensures.listed at c.for_row-rest.ensures)
 
 pub row-other-requires : goal.row-other-requires
 row-other-requires c = next_within c.args.self.now c.args.k c.requires c.rows.invariant c.if-rest-eq0.false c.rows.auto.rest-fits
@@ -19,18 +19,18 @@ row-other-requires c = next_within c.args.self.now c.args.k c.requires c.rows.in
 pub loop-c-init : goal.loop-c-init
 loop-c-init c =
     let some = some_column c.args.self.now c.args.k c.requires c.rows.invariant c.if-rest-eq0.false c.rows.auto.rest-fits in
-    (omega (arith, ap length c.row-row.ensures), refl)
+    (omega (arith, ap length c.row-row.ensures.listed), refl)
 
 pub bounds-other-c : goal.bounds-other-c
 bounds-other-c c =
     let same = as_long c.args.self.now c.args.k c.requires c.rows.invariant c.if-rest-eq0.false c.rows.auto.rest-fits in
-    omega (arith, ap length c.row-row.ensures, ap length c.row-other.ensures)
+    omega (arith, ap length c.row-row.ensures.listed, ap length c.row-other.ensures.listed)
 
 pub loop-c-preserved : goal.loop-c-preserved
 loop-c-preserved c = (
   omega arith,
   column_covered c.args.self.now c.args.k c.requires c.rows.invariant c.if-rest-eq0.false c.rows.auto.rest-fits
-      c.loop-c.c c.row-row.ensures c.row-other.ensures c.loop-c.invariant.0 c.loop-c.invariant.1 c.covered.ensures c.if-not-covered.false,
+      c.loop-c.c c.row-row.ensures.listed c.row-other.ensures.listed c.loop-c.invariant.0 c.loop-c.invariant.1 c.covered.ensures c.if-not-covered.false,
 )
 
 pub rows-preserved : goal.rows-preserved
@@ -39,7 +39,7 @@ rows-preserved c =
       | else-loop-c-test w ↦ absurd (omega (arith, w.loop-c-test.false, c.loop-c.invariant.0))
       | then-loop-c-test+then-not-covered w ↦
           left_next c.args.self.now c.args.k c.requires c.rows.invariant c.if-rest-eq0.false c.rows.auto.rest-fits
-          c.loop-c.c c.row-row.ensures c.row-other.ensures c.loop-c.invariant.0 c.loop-c.invariant.1 w.covered.ensures w.if-not-covered.true
+          c.loop-c.c c.row-row.ensures.listed c.row-other.ensures.listed c.loop-c.invariant.0 c.loop-c.invariant.1 w.covered.ensures w.if-not-covered.true
     ]
 
 pub returns-then-rest-eq0 : goal.returns-then-rest-eq0
@@ -48,4 +48,4 @@ returns-then-rest-eq0 c = found_none c.args.self.now c.args.k c.requires c.rows.
 pub returns-then-c-row : goal.returns-then-c-row
 returns-then-c-row c =
     found_lowest c.args.self.now c.args.k c.requires c.rows.invariant c.if-rest-eq0.false c.rows.auto.rest-fits
-    c.loop-c.c c.row-row.ensures c.row-other.ensures c.loop-c.invariant.0 c.loop-c.invariant.1 c.covered.ensures c.if-not-covered.false c.if-c-row.true
+    c.loop-c.c c.row-row.ensures.listed c.row-other.ensures.listed c.loop-c.invariant.0 c.loop-c.invariant.1 c.covered.ensures c.if-not-covered.false c.if-c-row.true

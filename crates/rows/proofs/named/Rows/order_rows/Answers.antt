@@ -1,8 +1,7 @@
 -- `order_rows` puts the indices of all rows in order (Numbered).
-use Prim.Native.Nat.{◌≤◌, ◌+◌, ◌*◌}
+use Prim.Native.Nat.{◌<◌}
 use native.Mathlib.Omega.{arith}
 use lib.ListN.{length, take}
-use Rattle.lists.proofs.Flat.{row_fits}
 use Rattle.rows.proofs.Numbered.{all_fit, all_ordered}
 use Rattle.rows.proofs.named.Rows.order_rows.Goals as goal
 
@@ -11,8 +10,8 @@ sort-requires c =
     let t = c.args.self.now in
     let n = length c.args.order.now in (
       all_fit t.width n t.cells.now c.number.new.order c.number.auto.order c.number.ensures
-          (λ i. i * t.width + t.width ≤ length t.cells.now) (λ k h. omega (arith, row_fits t.width n k h, c.requires.2)),
-      omega (arith, c.number.auto.order, c.requires.1),
+          (λ i. i < t.len) (λ k h. omega (arith, h, c.requires.0)),
+      omega (arith, c.number.auto.order, c.requires.2),
     )
 
 pub returns : goal.returns

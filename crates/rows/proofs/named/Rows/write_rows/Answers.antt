@@ -6,13 +6,12 @@ use Rattle.rows.proofs.named.Rows.write_rows.Goals as goal
 pub write_over-requires : goal.write_over-requires
 write_over-requires c =
     let t = c.args.self.now in
-    let l = c.loop-i in
-    row_room c.args.dst.now t.cells.now c.args.order.now t.width c.requires.0 c.requires.1 l.i-index l.to _ c.loop-i-test.true refl l.invariant.0 _ c.row.ensures
-    l.dst l.invariant.1
+    let l = c.loop-k in
+    row_room c.args.dst.now t.cells.now c.args.order.now t.width t.len t.fits c.requires.0 c.requires.1 l.k _ c.loop-k-test.true refl _ c.row.ensures.at l.dst l.invariant
 
-pub loop-i-preserved : goal.loop-i-preserved
-loop-i-preserved c =
+pub loop-k-preserved : goal.loop-k-preserved
+loop-k-preserved c =
     let t = c.args.self.now in
-    let l = c.loop-i in
-    rows_turn c.args.dst.now t.cells.now c.args.order.now t.width c.requires.0 c.requires.1 l.i-index l.to _ c.loop-i-test.true refl l.invariant.0 _ c.row.ensures
-    l.dst _ l.invariant.1 c.write_over.ensures
+    let l = c.loop-k in
+    rows_turn c.args.dst.now t.cells.now c.args.order.now t.width t.len t.fits c.requires.0 c.requires.1 l.k _ c.loop-k-test.true refl _ c.row.ensures.at
+    l.dst _ l.invariant c.write_over.ensures

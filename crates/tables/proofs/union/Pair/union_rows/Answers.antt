@@ -9,13 +9,13 @@ use borrow.Author.Rules.{rules}
 use Prim.Native.Nat.{◌*◌}
 use Rattle.tables.proofs.union.Pair.union_rows.Goals as goal
 
-pub widen_both-count-requires : goal.widen_both-count-requires
-widen_both-count-requires c = empty_cells (max_union_rows * max_columns)
+pub widen_both-len-requires : goal.widen_both-len-requires
+widen_both-len-requires c = empty_cells (max_union_rows * max_columns)
 
 pub returns : goal.returns
 unfolding union_rows
 returns c =
-    let w = c.widen_both-count.ensures in
+    let w = c.widen_both-len.ensures in
     let o = c.order_cells.ensures in
     record {
       rows_are = o.0 ∙ ap (ascending compare_row) w.rows_are;

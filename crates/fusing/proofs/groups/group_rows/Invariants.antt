@@ -1,9 +1,0 @@
--- `group_rows` meets its contract. The loop's invariant: the rows that are not in the rest are grouped.
-use lib.ListN.{length, get_or}
-use Rattle.fusing.specs.Groups.{cell_at}
-use Rattle.fusing.proofs.Grouping.{Grouping}
-use Rattle.fusing.proofs.groups.group_rows.Given as goal
-
-abbrev pub invariant-loop-j : goal.invariant-loop-j
-invariant-loop-j l =
-    Grouping (cell_at (length l.t.column_words.now) l.t.cells.now l.c) (get_or l.t.columns.now l.c 0) l.j-iterator.rest l.buckets l.leaders l.equal
