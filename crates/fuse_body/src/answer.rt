@@ -143,7 +143,8 @@ pub fn output_text(output: Output, board: &[u8], plant: &[u8], out: &mut [u8]) -
     Some(put_read(output, board, plant, out))
 }
 
-// The whole listing for the bytes of the two files, as `output_text` puts it: the name that stood before there were pages.
+// The whole listing for the bytes of the two files, as `output_text` puts it: the public name that stood before there were pages, and stays
+// beside it.
 pub fn fuse_text(board: &[u8], plant: &[u8], out: &mut [u8]) -> Option<usize>
     ensures { TextPromise board.now plant.now out.old result out.new }
 {

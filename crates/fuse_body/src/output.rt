@@ -61,7 +61,8 @@ pub fn run_output(
     write_text(rt, output, &first[..m], &second[..n], &mut out)
 }
 
-// Reads the files at two paths, board first, and writes the whole listing: the name that stood before there were pages.
+// Reads the files at two paths, board first, and writes the whole listing: the public name that stood before there were pages, and stays
+// beside `run_output`.
 pub fn run(rt: &(impl Files + Print), board: &[u8], plant: &[u8]) -> io::Result<()> {
     run_output(rt, Output::Listing, board, plant)
 }

@@ -31,6 +31,7 @@ pub fn complement_union(
     ensures { ComplementPromise a.now b.now table.old sets.old
         (complement_says result) table.new sets.new }
 {
+    // The list of ids lives in the call and is lent to the pair: the same two lines begin each union.
     let mut all = [0u32; MAX_IDS];
     let pair = check_pair(a, b, &mut all)?;
     fuse_accepted(&pair, table, sets)

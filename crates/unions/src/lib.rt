@@ -1,5 +1,4 @@
-// The three unions of two table images. Each call writes its result into the lent buffers, or refuses and changes nothing. Each has the list of
-// ids that its pair lends, and so begins with the same two lines.
+// The three unions of two table images. Each call writes its result into the lent buffers, or refuses and changes nothing.
 #![tactic(auto)]
 
 mod complement;

@@ -29,6 +29,7 @@ pub fn minimum_union(a: &[u32], b: &[u32], table: &mut [u32]) -> Result<MinimumC
     ensures { MinimumPromise a.now b.now table.old (minimum_says result)
         table.new }
 {
+    // The list of ids lives in the call and is lent to the pair: the same two lines begin each union.
     let mut all = [0u32; MAX_IDS];
     let pair = check_pair(a, b, &mut all)?;
     minimise_accepted(&pair, table)

@@ -29,6 +29,7 @@ pub fn outer_union(a: &[u32], b: &[u32], table: &mut [u32]) -> Result<OuterCount
     ensures { OuterPromise a.now b.now table.old (outer_says result)
         table.new }
 {
+    // The list of ids lives in the call and is lent to the pair: the same two lines begin each union.
     let mut all = [0u32; MAX_IDS];
     let pair = check_pair(a, b, &mut all)?;
     unite_accepted(&pair, table)
