@@ -1,30 +1,33 @@
 // The words of an answer in a lent buffer.
-ghost use Rattle.std.specs.Prelude.{◌≡◌, ℕ, List};
-ghost use Rattle.definitions.specs.Answer.{says, done};
-ghost use Rattle.definitions.specs.CInterface.{answer_words, refusal_words};
+ghost use Rattle.std.specs.Prelude.{◌≡◌, ℕ, List, Result, Ok, Err};
+ghost use Rattle.definitions.specs.Answer.{Outcome};
+ghost use Rattle.definitions.specs.declared.refusal.Refusal.{Refusal};
+ghost use Rattle.definitions.specs.CInterface.{refusal_words};
 ghost use Rattle.definitions.specs.Refusal.{question_number, table_number};
-ghost use Rattle.fusion_c.specs.Words.{PutWords, FitWords, CountsFit};
+ghost use Rattle.fusion_c.specs.Words.{PutWords, CountsFit};
 
 use definitions::Refusal;
 
 // The words of an answer.
 pub(crate) const ANSWER_WORDS: usize = 9;
 
-// What a done answer carries, as words: `fill` puts the values into the seven words behind number and table.
+// What a call answers with when it is done: `says` is the outcome that its answer tells, and `words_of` an outcome's nine words.
 pub(crate) trait AnswerWords {
-    ghost values: { Self → List ℕ };
+    ghost says: { Result Self Refusal → Outcome };
 
-    ghost fill: { List ℕ → List ℕ };
+    ghost words_of: { Outcome → List ℕ };
 
     fn words(self) -> [u32; ANSWER_WORDS]
-        requires { FitWords (values self) }
-        ensures { result ≡ answer_words fill (done (values self)) };
+        requires { CountsFit (says (Ok self)) }
+        ensures { result ≡ words_of (says (Ok self)) };
+
+    ghost laws: { (r : Refusal) → words_of (says (Err r)) ≡ refusal_words (question_number r.question) (table_number r.subject) };
 }
 
 // Puts the words of an answer, done or refused, as far as they fit; its number.
 pub(crate) fn put_answer<A: AnswerWords>(said: Result<A, Refusal>, answer: &mut [u32]) -> u32
-    requires { CountsFit (says A.values said) }
-    ensures { PutWords (answer_words A.fill (says A.values said)) answer.old result answer.new }
+    requires { CountsFit (A.says said) }
+    ensures { PutWords (A.words_of (A.says said)) answer.old result answer.new }
 {
     match said {
         Ok(counts) => put_words(&counts.words(), answer),

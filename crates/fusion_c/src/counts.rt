@@ -1,13 +1,17 @@
 // Where the counts of each call's done answer stand among its words.
-ghost use Rattle.std.specs.Prelude.{List, [], ◌∷◌, ◌++◌, take, drop};
+ghost use mathlib.Core.Path.{refl};
+ghost use Rattle.definitions.specs.Answer.{outer_says, minimum_says, complement_says, read_says, page_says};
+ghost use Rattle.definitions.specs.CInterface.{outer_words, minimum_words, complement_words, list_words, page_words};
 
 use crate::answers::{ANSWER_WORDS, AnswerWords};
 use definitions::{ComplementCounts, MinimumCounts, OuterCounts, ReadingCounts};
 
 impl AnswerWords for OuterCounts {
-    ghost values = { λ o. o.rows ∷ o.words ∷ o.filled ∷ [] };
+    ghost says = { outer_says };
 
-    ghost fill = { λ values. values ++ 0 ∷ 0 ∷ 0 ∷ 0 ∷ [] };
+    ghost words_of = { outer_words };
+
+    ghost laws = { λ r. refl };
 
     fn words(self) -> [u32; ANSWER_WORDS] {
         let rows = self.rows as u32;
@@ -18,9 +22,11 @@ impl AnswerWords for OuterCounts {
 }
 
 impl AnswerWords for MinimumCounts {
-    ghost values = { λ m. m.rows ∷ m.words ∷ m.filled ∷ m.pairs ∷ [] };
+    ghost says = { minimum_says };
 
-    ghost fill = { λ values. values ++ 0 ∷ 0 ∷ 0 ∷ [] };
+    ghost words_of = { minimum_words };
+
+    ghost laws = { λ r. refl };
 
     fn words(self) -> [u32; ANSWER_WORDS] {
         let rows = self.rows as u32;
@@ -32,9 +38,11 @@ impl AnswerWords for MinimumCounts {
 }
 
 impl AnswerWords for ComplementCounts {
-    ghost values = { λ c. c.rows ∷ c.words ∷ c.filled ∷ c.sets ∷ c.set_words ∷ [] };
+    ghost says = { complement_says };
 
-    ghost fill = { λ values. take 3 values ++ 0 ∷ drop 3 values ++ 0 ∷ [] };
+    ghost words_of = { complement_words };
+
+    ghost laws = { λ r. refl };
 
     fn words(self) -> [u32; ANSWER_WORDS] {
         let rows = self.rows as u32;
@@ -47,9 +55,11 @@ impl AnswerWords for ComplementCounts {
 }
 
 impl AnswerWords for ReadingCounts {
-    ghost values = { λ r. r.sets ∷ r.words ∷ [] };
+    ghost says = { read_says };
 
-    ghost fill = { λ values. 0 ∷ drop 1 values ++ 0 ∷ 0 ∷ take 1 values ++ 0 ∷ 0 ∷ [] };
+    ghost words_of = { list_words };
+
+    ghost laws = { λ r. refl };
 
     fn words(self) -> [u32; ANSWER_WORDS] {
         let words = self.words as u32;
@@ -60,9 +70,11 @@ impl AnswerWords for ReadingCounts {
 
 // The pages.
 impl AnswerWords for usize {
-    ghost values = { λ pages. pages ∷ [] };
+    ghost says = { page_says };
 
-    ghost fill = { λ values. 0 ∷ 0 ∷ 0 ∷ 0 ∷ 0 ∷ 0 ∷ values };
+    ghost words_of = { page_words };
+
+    ghost laws = { λ r. refl };
 
     fn words(self) -> [u32; ANSWER_WORDS] {
         [0, 0, 0, 0, 0, 0, 0, 0, self as u32]
