@@ -73,7 +73,7 @@ extern "C" {
 /* Words that are enough for every set list that is read. */
 #define FUSION_READ_WORDS (1024 * (2 + 64))
 
-/* Rows of the largest table that is put on a page. */
+/* Rows of the largest table that is put on a page, as many as a fused table may have. */
 #define FUSION_STORED_ROWS 1024
 
 /* Bytes of a page, and of each of its lines: 80 characters and a byte 10. */

@@ -289,7 +289,7 @@ fn row_limit() {
     assert_eq!(page(&numbered(1, 4095), 0), Err((3, 0)));
 }
 
-/// Refused with this number whatever is wrong behind the image.
+/// Refused with this number, whatever page and buffer are given with the image.
 fn refused(image: &[u32], number: u32) {
     for (k, room) in [(0, PAGE_BYTES), (0, 0), (u32::MAX, PAGE_BYTES), (99, 7)] {
         assert_eq!(page_in(image, k, room), Err((number, 0)));

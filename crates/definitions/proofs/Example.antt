@@ -18,8 +18,8 @@ use Rattle.definitions.specs.Text.{ascii, digits, decimal, cell_text}
 use Rattle.definitions.specs.Listing.{line}
 use Rattle.definitions.specs.Page.{blanks, page_line, band_page, page, all_pages}
 use Rattle.definitions.specs.declared.Output.TheVariants.{Pages}
-use Rattle.definitions.specs.Program.{words_of, union_text, minimum_text, sets_text, fused_text, listing, unions_text, read_text, fuse_text}
-use Rattle.definitions.specs.Outputs.{unions_output, read_output, whole_output}
+use Rattle.definitions.specs.Program.{words_of, union_text, minimum_text, sets_text, fused_text, listing, unions_text, read_text, whole_text, fuse_text}
+use Rattle.definitions.specs.Outputs.{whole_output}
 
 -- a filled cell with its number, and the empty cell
 abbrev # : ℕ → ℕ
@@ -68,7 +68,7 @@ unfolding flatten all any filter find_index distinct all_below sum_below image_o
     filled covers subsumes minimum_rows tries pairs_tried same_row agree share marked_cells counted_cells complement contains subsets adjacent_to_all is_complementing is_maximal
     maximal_sets members join join_all joined union_sets fused_rows bits marks_from record_of set_record list_of set_list image_number pair_outcome fused_image
     complement_outcome words_of digits decimal cell_text line positions_of union_text minimum_text sets_text fused_text listing unions_text
-    read_text fuse_text
+    read_text whole_text
 worked_example = refl
 
 -- its fused table on a page: 56 lines are unused
@@ -84,5 +84,5 @@ pub worked_page : whole_output Pages board plant ≡ page_output
 unfolding flatten all any filter find_index distinct all_below sum_below tabulate image_of insert ascending compare_row union_ids union_columns widened widened_rows union_rows
     filled covers subsumes same_row agree share marked_cells counted_cells complement contains subsets adjacent_to_all is_complementing is_maximal
     maximal_sets members join join_all joined union_sets fused_rows bits marks_from record_of set_record list_of set_list image_number pair_outcome fused_image
-    complement_outcome words_of digits decimal cell_text page_line band_page page all_pages unions_output read_output whole_output
+    complement_outcome words_of digits decimal cell_text page_line band_page page all_pages unions_text read_text whole_text
 worked_page = refl

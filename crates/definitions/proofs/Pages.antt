@@ -11,6 +11,7 @@ use lib.ListN.{length, get_or, take, drop, length-map, length-take, length-drop}
 use lib.Seq.{take_at, drop_at, drop-append-le, take-append-le, get_or-take, get_or-drop}
 use borrow.Author.Tests.{lt-ltb, ltb-true}
 use Rattle.std.proofs.lemmas.List.{get_or-map}
+use Rattle.std.specs.Int.{div_ceil}
 use Rattle.definitions.specs.Limits.{max_stored_rows}
 use Rattle.definitions.specs.Lists.{all, tabulate}
 use Rattle.definitions.specs.Word.{id_of}
@@ -21,9 +22,9 @@ use Rattle.definitions.specs.Statements.{Member}
 use Rattle.definitions.specs.Claims.{Passed}
 use Rattle.definitions.specs.Text.{decimal, id_text, cell_text}
 use Rattle.definitions.specs.Page.{position_width, cell_width, flush_right, page_line, band_columns, in_band, page_rows, ids_line, cells_line, line_at, line_on}
-use Rattle.definitions.specs.Page.{band_page, parts_of, band_pages, page_count, page, page_bytes, page_outcome}
+use Rattle.definitions.specs.Page.{band_page, band_pages, page_count, page, page_bytes, page_outcome}
 use Rattle.definitions.specs.PageClaims.{line_bytes, page_lines, IsPage, CellPlace, before_field, bytes_at, CellShown, PageDone}
-use Rattle.definitions.specs.Promise.{BufferPromise, PagePromise, PagesAreWhole, NoCellIsLost}
+use Rattle.definitions.specs.Promise.{BufferPromise, PagePromise, PagesAreWhole, PagesAreCounted, NoCellIsLost}
 use Rattle.definitions.proofs.Bools.{bool_cases}
 use Rattle.definitions.proofs.Lists.{member-get}
 use Rattle.definitions.proofs.Counts.{flatten-length}
@@ -38,9 +39,12 @@ use Rattle.definitions.proofs.PageLines.{Characters, LineFits, line_fits, IsLine
 
 -- ---- the texts fit their fields
 
--- a position of at most four digits
-pub position_fits : (position : ℕ) → position < 10 ^ 4 → length (decimal position) ≤ position_width
-position_fits position h = decimal-length 3 position h
+pub four_digits : (position : ℕ) → position < 10 ^ 4 → length (decimal position) ≤ position_width
+four_digits position h = decimal-length 3 position h
+
+-- the position of a row of any image: a header counts at most 4,095 rows
+pub position_fits : (image : List ℕ) (position : ℕ) → position < row_count image → length (decimal position) ≤ position_width
+position_fits image position h = four_digits position (omega arith)
 
 pub id_fits : (w : ℕ) → length (id_text w) ≤ cell_width
 id_fits w = omega (arith, decimal-length 4 (id_of w) (omega arith))
@@ -86,7 +90,7 @@ row_line_fits : (image : List ℕ) (band position : ℕ) → position < row_coun
     → LineFits (decimal position) (map cell_text (in_band band (get_or (image_rows image) position [])))
 row_line_fits image band position h =
     line_fits cell_text (decimal position) (in_band band (get_or (image_rows image) position []))
-    (position_fits position (omega arith)) (decimal_characters position) (band_few band (get_or (image_rows image) position []))
+    (position_fits image position h) (decimal_characters position) (band_few band (get_or (image_rows image) position []))
     (λ w m. (cell_fits w, cell_characters w))
 
 -- characters 1 to 4 of a row's line hold its position
@@ -161,13 +165,13 @@ module _ (image : List ℕ) where
   -- a table without rows has pages too
   pub some_page : {limit : ℕ} → Passed limit image → 0 < page_count image
   some_page p =
-      let bands : 1 ≤ parts_of band_columns (column_count image) = omega (arith, p.some_column) in
+      let bands : 1 ≤ div_ceil (column_count image) band_columns = omega (arith, p.some_column) in
       let parts : 1 ≤ band_pages image = omega arith in
       omega (arith, mul-le-mul bands parts)
 
   pub few_pages : Passed max_stored_rows image → page_count image ≤ 54
   few_pages p =
-      let bands : parts_of band_columns (column_count image) ≤ 3 = omega (arith, p.few_columns) in
+      let bands : div_ceil (column_count image) band_columns ≤ 3 = omega (arith, p.few_columns) in
       let parts : band_pages image ≤ 18 = omega (arith, p.few_rows) in
       omega (arith, mul-le-mul bands parts)
 
@@ -181,7 +185,7 @@ module _ (image : List ℕ) where
         (mul-add-div_right some band part ∙ ap (λ (k : ℕ). band + k) (div-eq_of_lt h) ∙ add-zero band)
         (mul-add-mod_self_right band (band_pages image) part ∙ mod-eq_of_lt h)
 
-    pub page_exists : band < parts_of band_columns (column_count image) → band * band_pages image + part < page_count image
+    pub page_exists : band < div_ceil (column_count image) band_columns → band * band_pages image + part < page_count image
     page_exists g =
         omega (arith, mul-le-mul_right {m = suc band} (band_pages image) g, suc-mul band (band_pages image))
 
@@ -328,6 +332,18 @@ pages_are_whole image n bytes values bytes_after promise =
     let front : take page_bytes bytes_after ≡ page image n = ap (take page_bytes) promise.writes ∙ take_at (page image n) _ page_bytes size in (
       subst IsPage (sym front) (page_lines_lem image n),
       ap (drop page_bytes) promise.writes ∙ drop_at (page image n) _ page_bytes size ∙ ap (λ (k : ℕ). drop k bytes) size,
+    )
+
+pub pages_are_counted : PagesAreCounted
+pages_are_counted image n bytes values bytes_after promise =
+    let d = page_complete promise in (
+      d.carries,
+      some_page image d.accepted,
+      few_pages image d.accepted,
+      λ other lent answer lent_after room call. (
+        λ e. (page_complete (subst (λ (o : Outcome). PagePromise image other lent o lent_after) e call)).exists,
+        λ exists. (page_written call d.accepted exists room).answers ∙ ap done (sym d.carries),
+      ),
     )
 
 pub no_cell_is_lost : NoCellIsLost

@@ -1,6 +1,6 @@
 -- The text of `fuse` and of `fuse_pages` is never longer than a number over the limits, so that a buffer of that length takes every output whole. Assumes
 -- nothing.
-use mathlib.Core.Path.{◌≡◌, refl, ◌∙◌, ap, subst}
+use mathlib.Core.Path.{◌≡◌, refl, ◌∙◌, ap}
 use mathlib.Core.Bool.{Bool, true, false}
 use mathlib.Core.Logic.{⊎_elim}
 use mathlib.Core.List.{List, [], ◌∷◌, ◌++◌, map, flatten}
@@ -24,8 +24,8 @@ use Rattle.definitions.specs.Text.{ascii}
 use Rattle.definitions.specs.Listing.{line, columns_line, union_title, minimum_title, sets_title, fused_title}
 use Rattle.definitions.specs.Listing.{row_line, set_line}
 use Rattle.definitions.specs.Program.{row_lines, set_lines, union_text, minimum_text, sets_text, fused_text, listing}
-use Rattle.definitions.specs.Program.{max_bytes, words_of, lent_table, lent_sets, unless_refused, unions_text, read_text, fuse_text}
-use Rattle.definitions.specs.Outputs.{output_text, unions_output, read_output, whole_output}
+use Rattle.definitions.specs.Program.{max_bytes, words_of, lent_table, lent_sets, unless_refused, unions_text, read_text, whole_text, fuse_text}
+use Rattle.definitions.specs.Outputs.{printed, whole_output}
 use Rattle.definitions.specs.Program.{row_bytes, set_bytes, max_text}
 use Rattle.definitions.specs.Statements.{Member}
 use Rattle.definitions.specs.Claims.{Passed, ComplementDone}
@@ -200,45 +200,31 @@ small_refusal a b room sets_room =
 -- ---- the whole text
 
 answered_bound : (output : Output) (a b : List ℕ) (o : Outcome) → complement_outcome a b lent_table lent_sets ≡ o → SmallRefusal o
-    → length (unless_refused o (output_text output a b)) ≤ max_text
+    → length (unless_refused o (printed output a b)) ≤ max_text
 answered_bound Listing a b (done values) e s = listing_bound a b lent_table lent_sets values ((complement_done a b lent_table lent_sets values).0 e)
 answered_bound Pages a b (done values) e s =
     pages_bound (fused_image a b) (fused_passes a b lent_table lent_sets values ((complement_done a b lent_table lent_sets values).0 e))
 answered_bound output a b (refused number table) e s = omega (arith, refused_bound number table (omega (arith, s.0)) (omega (arith, s.1)))
 
-pub unions_output_bound : (output : Output) (a b : List ℕ) → length (unions_output output a b) ≤ max_text
-unfolding unions_output
-unions_output_bound output a b = answered_bound output a b (complement_outcome a b lent_table lent_sets) refl (small_refusal a b lent_table lent_sets)
+pub unions_bound : (output : Output) (a b : List ℕ) → length (unions_text (printed output) a b) ≤ max_text
+unfolding unions_text
+unions_bound output a b = answered_bound output a b (complement_outcome a b lent_table lent_sets) refl (small_refusal a b lent_table lent_sets)
 
-pub read_output_bound : (output : Output) (board plant : List ℕ) → length (read_output output board plant) ≤ max_text
-unfolding read_output line
-read_output_bound output board plant =
+pub read_bound : (output : Output) (board plant : List ℕ) → length (read_text (printed output) board plant) ≤ max_text
+unfolding read_text line
+read_bound output board plant =
     bool_cases (eqb (length board % 4) 0)
     (λ e. rw e
     (bool_cases (eqb (length plant % 4) 0)
-    (λ f. rw f (unions_output_bound output (words_of board) (words_of plant)))
+    (λ f. rw f (unions_bound output (words_of board) (words_of plant)))
     (λ f. rw f (omega arith))))
     (λ e. rw e (omega arith))
 
 -- no output is longer
 pub output_bound : (output : Output) (board plant : List ℕ) → length (whole_output output board plant) ≤ max_text
-unfolding whole_output
-output_bound output board plant = read_output_bound output (take max_bytes board) (take max_bytes plant)
+unfolding whole_text
+output_bound output board plant = read_bound output (take max_bytes board) (take max_bytes plant)
 
--- ---- the text of `fuse`, which is the output of the listing
-
-pub listing_output : (board plant : List ℕ) → whole_output Listing board plant ≡ fuse_text board plant
-unfolding whole_output read_output unions_output fuse_text read_text unions_text
-listing_output board plant = refl
-
-pub unions_bound : (a b : List ℕ) → length (unions_text a b) ≤ max_text
-unfolding unions_output unions_text
-unions_bound a b = unions_output_bound Listing a b
-
-pub read_bound : (board plant : List ℕ) → length (read_text board plant) ≤ max_text
-unfolding read_output unions_output read_text unions_text
-read_bound board plant = read_output_bound Listing board plant
-
--- no text is longer
+-- that of `fuse` among them
 pub text_bound : (board plant : List ℕ) → length (fuse_text board plant) ≤ max_text
-text_bound board plant = subst (λ (text : List ℕ). length text ≤ max_text) (listing_output board plant) (output_bound Listing board plant)
+text_bound = output_bound Listing

@@ -1,4 +1,4 @@
--- The limits of document 01 on tables, unions and sets, each by name, and here alone.
+-- The limits of document 01 on tables, unions and sets, and of the requests, each by name, and here alone.
 use Rattle.std.specs.Prelude.{ℕ, ◌+◌}
 
 -- "A source table has 1 to 16 columns and 0 to 32 rows." A union has at most 16 columns too.
@@ -20,7 +20,7 @@ max_union_rows = max_rows + max_rows
 abbrev pub max_sets : ℕ
 max_sets = 1024
 
--- request A3: "1 to 7 of the image with 1,024 in place of 32"
+-- the rows of a table that is stored, as a fused table may have them. Request A3: "1 to 7 of the image with 1,024 in place of 32"
 abbrev pub max_stored_rows : ℕ
 max_stored_rows = 1024
 

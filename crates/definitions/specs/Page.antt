@@ -1,6 +1,7 @@
 -- Request A3, "The table on a page": the lines of a page, which columns and rows stand on it, how many pages there are, and the checks.
 use Rattle.std.specs.Prelude.{ℕ, ◌+◌, ◌*◌, ◌-◌, ◌/◌, ◌%◌, max, cond, leb, ltb, length, get_or, take, drop, replicate}
 use mathlib.Core.List.{List, [], ◌∷◌, ◌++◌, map, flatten}
+use Rattle.std.specs.Int.{div_ceil}
 use Rattle.definitions.specs.Limits.{max_stored_rows}
 use Rattle.definitions.specs.Lists.{tabulate}
 use Rattle.definitions.specs.Image.{column_count, row_count, column_words, image_rows}
@@ -29,16 +30,15 @@ blanks n = replicate n 32
 abbrev pub flush_right : ℕ → List ℕ → List ℕ
 flush_right width text = blanks (width - length text) ++ text
 
--- "then blanks", up to so many characters
-abbrev pub flush_left : ℕ → List ℕ → List ℕ
-flush_left width text = text ++ blanks (width - length text)
-
 -- the position and the cells of a line, "all flushed right"
 abbrev pub line_text : List ℕ → List (List ℕ) → List ℕ
 line_text position cells = flush_right position_width position ++ flatten (map (flush_right cell_width) cells)
 
+-- "then blanks", up to 80 characters, and byte 10
 unfoldable pub page_line : List ℕ → List (List ℕ) → List ℕ
-page_line position cells = flush_left line_width (line_text position cells) ++ (10 ∷ [])
+page_line position cells =
+    let text : List ℕ = line_text position cells in
+    (text ++ blanks (line_width - length text)) ++ (10 ∷ [])
 
 -- ---- a page
 
@@ -75,16 +75,12 @@ band_page image band part = ids_line image band ++ flatten (tabulate page_rows (
 
 -- ---- the pages of a table
 
--- how many parts of n, the last of which may be short, some elements make
-abbrev pub parts_of : ℕ → ℕ → ℕ
-parts_of n count = (count + (n - 1)) / n
-
 -- "A table without rows has one page a band."
 abbrev pub band_pages : List ℕ → ℕ
-band_pages image = max 1 (parts_of page_rows (row_count image))
+band_pages image = max 1 (div_ceil (row_count image) page_rows)
 
 abbrev pub page_count : List ℕ → ℕ
-page_count image = parts_of band_columns (column_count image) * band_pages image
+page_count image = div_ceil (column_count image) band_columns * band_pages image
 
 -- "the first six down all rows, 59 rows a page, then the next six from the first row again. .. Pages count from 0"
 unfoldable pub page : List ℕ → ℕ → List ℕ
@@ -100,13 +96,12 @@ all_pages image = flatten (tabulate (page_count image) (page image))
 abbrev pub page_bytes : ℕ
 page_bytes = 4860
 
--- "then 16 for fewer than 4,860 bytes"; "a done answer carries how many there are"
-abbrev pub bytes_outcome : List ℕ → ℕ → Outcome
-bytes_outcome image room = unless (no (leb page_bytes room) 16) 2 (done (page_count image ∷ []))
-
--- "then 15 for a page that doesn't exist"
+-- "then 15 for a page that doesn't exist, then 16 for fewer than 4,860 bytes"; "a done answer carries how many there are"
 abbrev pub exists_outcome : List ℕ → ℕ → ℕ → Outcome
-exists_outcome image n room = unless (no (ltb n (page_count image)) 15) 2 (bytes_outcome image room)
+exists_outcome image n room =
+    unless (no (ltb n (page_count image)) 15) 2
+    (unless (no (leb page_bytes room) 16) 2
+    (done (page_count image ∷ [])))
 
 -- "1 to 7 of the image with 1,024 in place of 32"
 unfoldable pub page_outcome : List ℕ → ℕ → ℕ → Outcome

@@ -1,4 +1,4 @@
--- Request A3: the terms in which its claims are stated: the bytes of a page, and a cell that stands on one.
+-- Request A3: the terms in which its claims are stated: the bytes of a page, a cell that stands on one, and a call that is done.
 use Rattle.std.specs.Prelude.{◌≡◌, ◌↔◌, List, [], ◌∷◌, ℕ, ◌+◌, ◌*◌, ◌%◌, ◌≤◌, ◌<◌, length, get_or, take, drop}
 use Rattle.definitions.specs.Limits.{max_stored_rows}
 use Rattle.definitions.specs.Image.{column_words, image_rows}

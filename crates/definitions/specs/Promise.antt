@@ -1,6 +1,6 @@
 -- What each call promises, whatever words its inputs and its lent buffers hold: the answer, every word of
 -- each buffer afterwards, and of complement union demand 3. This is all that a call promises; its `ensures` says it by name.
-use Rattle.std.specs.Prelude.{◌≡◌, List, [], ◌∷◌, ℕ, ◌<◌, ◌≤◌, length, take, drop}
+use Rattle.std.specs.Prelude.{◌≡◌, ◌↔◌, List, [], ◌∷◌, ℕ, ◌<◌, ◌≤◌, length, take, drop}
 use Rattle.definitions.specs.Limits.{mark_words, max_stored_rows}
 use Rattle.definitions.specs.Image.{row_count, column_count}
 use Rattle.definitions.specs.OuterUnion.{union_columns, union_rows}
@@ -82,8 +82,18 @@ PagesAreWhole =
     (image : List ℕ) (n : ℕ) (bytes values bytes_after : List ℕ) → PagePromise image n bytes (done values) bytes_after
     → IsPage (take page_bytes bytes_after) × (drop page_bytes bytes_after ≡ drop page_bytes bytes)
 
+-- "Pages count from 0, and a done answer carries how many there are": one at least, and 54 at most; of the calls with at least 4,860
+-- bytes those of the pages below that number are done
+abbrev pub PagesAreCounted : Type 0
+PagesAreCounted =
+    (image : List ℕ) (n : ℕ) (bytes values bytes_after : List ℕ) → PagePromise image n bytes (done values) bytes_after
+    → (values ≡ page_count image ∷ []) × (0 < page_count image) × (page_count image ≤ 54)
+    × ((other : ℕ) (lent : List ℕ) (answer : Outcome) (lent_after : List ℕ) → page_bytes ≤ length lent
+    → PagePromise image other lent answer lent_after
+    → (answer ≡ done values) ↔ (other < page_count image))
+
 -- no cell is lost or cut: for every row and column of an accepted image there is a page, and on it a place; every call of that page
--- with 4,860 bytes is done, and shows the cell there
+-- with at least 4,860 bytes is done, and shows the cell there
 abbrev pub NoCellIsLost : Type 0
 NoCellIsLost =
     (image : List ℕ) → Passed max_stored_rows image → (row column : ℕ) → row < row_count image → column < column_count image
@@ -92,7 +102,7 @@ NoCellIsLost =
     → (answer ≡ done (page_count image ∷ [])) × CellShown image row column place bytes_after)
 
 -- "Installers hang the fused table inside the cabinet": what a done complement union wrote has pages, and every one of them is
--- written, given 4,860 bytes
+-- written, given at least 4,860 bytes
 abbrev pub FusedHasPages : Type 0
 FusedHasPages =
     (a b table sets values table_after sets_after : List ℕ)

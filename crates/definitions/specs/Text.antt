@@ -1,4 +1,4 @@
--- Document 01, "Program `fuse`": numbers, ids and cells as text. A text is a list of bytes.
+-- Document 01, "Program `fuse`": numbers, ids and cells as text, for the listing and for the pages of request A3. A text is a list of bytes.
 use Rattle.std.specs.Prelude.{ℕ, zero, suc, ◌+◌, ◌/◌, ◌%◌, ◌^◌, cond, List, [], ◌∷◌, ◌++◌, ltb}
 use Prim.Native.Char.{code}
 use Prim.Native.String.{String, [] as none, ◌∷◌ as ◌then◌}

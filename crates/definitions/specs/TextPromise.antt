@@ -1,9 +1,7 @@
 -- What `fuse_text`, and `output_text` for each program, promise of their answer and of each byte of their buffer, whatever the two
--- files hold.
+-- files hold: by the text, which is `fuse_text` or `whole_output` of the files' bytes.
 use Rattle.std.specs.Prelude.{◌≡◌, cond, List, ◌++◌, ℕ, leb, length, drop, Option, Some, None}
-use Rattle.definitions.specs.Program.{fuse_text, max_text}
-use Rattle.definitions.specs.Outputs.{whole_output}
-use Rattle.definitions.specs.declared.Output.{Output}
+use Rattle.definitions.specs.Program.{max_text}
 
 -- the length of the text, or none where a buffer of so many bytes is shorter than the longest text
 abbrev pub text_answer : List ℕ → ℕ → Option ℕ
@@ -13,10 +11,6 @@ text_answer text room = cond (leb max_text room) (Some (length text)) None
 abbrev pub text_after : List ℕ → List ℕ → List ℕ
 text_after text found = cond (leb max_text (length found)) (text ++ drop (length text) found) found
 
-pub record TextPromise (board plant found : List ℕ) (answer : Option ℕ) (after : List ℕ) : Type 0 where
-  pub answers : answer ≡ text_answer (fuse_text board plant) (length found)
-  pub writes : after ≡ text_after (fuse_text board plant) found
-
-pub record OutputPromise (output : Output) (board plant found : List ℕ) (answer : Option ℕ) (after : List ℕ) : Type 0 where
-  pub answers : answer ≡ text_answer (whole_output output board plant) (length found)
-  pub writes : after ≡ text_after (whole_output output board plant) found
+pub record TextPromise (text found : List ℕ) (answer : Option ℕ) (after : List ℕ) : Type 0 where
+  pub answers : answer ≡ text_answer text (length found)
+  pub writes : after ≡ text_after text found

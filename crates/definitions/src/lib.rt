@@ -1,4 +1,4 @@
-// What code and definitions share: the limits, and the answers of the calls.
+// What code and definitions share: the limits, the answers of the calls, and what the programs print.
 #![tactic(auto)]
 
 mod answers;

@@ -1,5 +1,5 @@
-// The limits of document 01 on tables, unions and sets, each by name, and here alone. specs/Limits has the same for the
-// contracts.
+// The limits of document 01 on tables, unions and sets, and of the requests, each by name, and here alone. specs/Limits has the same for
+// the contracts.
 
 // The columns of a table, and of a union.
 pub const MAX_COLUMNS: usize = 16;
@@ -15,7 +15,7 @@ pub const MAX_UNION_ROWS: usize = 2 * MAX_ROWS;
 // The maximal sets that complement union lists.
 pub const MAX_SETS: usize = 1024;
 
-// The rows of a table that is put on pages (request A3).
+// The rows of a table that is stored, as a fused table may have them, and put on pages (request A3).
 pub const MAX_STORED_ROWS: usize = 1024;
 
 // The words of a record of the set list: those that mark positions, and all.

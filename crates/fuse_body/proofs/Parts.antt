@@ -29,8 +29,8 @@ use Rattle.definitions.specs.Promise.{OuterPromise, MinimumPromise}
 use Rattle.definitions.specs.Reading.{positions_of}
 use Rattle.definitions.specs.Listing.{columns_line, union_title, minimum_title, sets_title, fused_title, set_line, refused_line}
 use Rattle.definitions.specs.Program.{row_lines, set_lines, lent_table, lent_sets, union_text, minimum_text, sets_text, fused_text, listing}
-use Rattle.definitions.specs.Program.{unless_refused}
-use Rattle.definitions.specs.Outputs.{output_text, unions_output}
+use Rattle.definitions.specs.Program.{unless_refused, unions_text}
+use Rattle.definitions.specs.Outputs.{printed}
 use Rattle.definitions.specs.Page.{all_pages}
 use Rattle.definitions.specs.Statements.{Member}
 use Rattle.definitions.specs.Claims.{Passed, ComplementDone}
@@ -255,9 +255,9 @@ module _ {a b fused sets : List ℕ} {answer : Result ComplementCounts Refusal} 
   outcome = w.promise.answers ∙ ap₂ (complement_outcome a b) w.table_words w.set_words
 
   pub refused_text : (output : Output) {r : Refusal} → answer ≡ Err r
-      → refused_line (question_number r.question) (table_number r.subject) ≡ unions_output output a b
-  unfolding unions_output
-  refused_text output is = ap (λ (o : Outcome). unless_refused o (output_text output a b)) (sym (ap complement_says is) ∙ outcome)
+      → refused_line (question_number r.question) (table_number r.subject) ≡ unions_text (printed output) a b
+  unfolding unions_text
+  refused_text output is = ap (λ (o : Outcome). unless_refused o (printed output a b)) (sym (ap complement_says is) ∙ outcome)
 
   module _ {counts : ComplementCounts} (is : answer ≡ Ok counts) where
     abbrev values : List ℕ
@@ -272,14 +272,14 @@ module _ {a b fused sets : List ℕ} {answer : Result ComplementCounts Refusal} 
     table_left : fused ≡ fused_image a b ++ drop (length (fused_image a b)) w.found_table
     table_left = left _ values (fused_image a b) w.found_table fused (sym (ap complement_says is)) w.promise.writes
 
-    output_text_lem : (output : Output) → output_text output a b ≡ unions_output output a b
-    unfolding unions_output
-    output_text_lem output = ap (λ (o : Outcome). unless_refused o (output_text output a b)) said
+    printed_text : (output : Output) → printed output a b ≡ unions_text (printed output) a b
+    unfolding unions_text
+    printed_text output = ap (λ (o : Outcome). unless_refused o (printed output a b)) said
 
     -- ---- the listing
 
-    pub listed_text : {output : Output} → output ≡ Listing → listing a b ≡ unions_output output a b
-    listed_text {output} e = ap (λ (o : Output). output_text o a b) (sym e) ∙ output_text_lem output
+    pub listed_text : {output : Output} → output ≡ Listing → listing a b ≡ unions_text (printed output) a b
+    listed_text {output} e = ap (λ (o : Output). printed o a b) (sym e) ∙ printed_text output
 
     pub listed_words : FusedWords a b fused sets counts
     unfolding fused_image fused_text
@@ -327,5 +327,5 @@ module _ {a b fused sets : List ℕ} {answer : Result ComplementCounts Refusal} 
     pub table_passes : Passed max_stored_rows (take counts.words fused)
     table_passes = rw fused_image_lem (fused_passes a b lent_table lent_sets values call_done)
 
-    pub paged_text : {output : Output} → output ≡ Pages → all_pages (take counts.words fused) ≡ unions_output output a b
-    paged_text {output} e = ap all_pages fused_image_lem ∙ ap (λ (o : Output). output_text o a b) (sym e) ∙ output_text_lem output
+    pub paged_text : {output : Output} → output ≡ Pages → all_pages (take counts.words fused) ≡ unions_text (printed output) a b
+    paged_text {output} e = ap all_pages fused_image_lem ∙ ap (λ (o : Output). printed o a b) (sym e) ∙ printed_text output

@@ -1,10 +1,10 @@
 // The whole text of a program, from the bytes of two files.
 ghost use Rattle.std.specs.Prelude.{◌≤◌, length};
-ghost use Rattle.definitions.specs.TextPromise.{OutputPromise, TextPromise};
+ghost use Rattle.definitions.specs.TextPromise.{TextPromise};
 ghost use Rattle.definitions.specs.Listing.{ragged_line, refused_line};
 ghost use Rattle.definitions.specs.Refusal.{question_number, table_number};
-ghost use Rattle.definitions.specs.Program.{max_bytes, max_text, listing};
-ghost use Rattle.definitions.specs.Outputs.{unions_output, read_output};
+ghost use Rattle.definitions.specs.Program.{max_bytes, max_text, listing, unions_text, read_text, fuse_text};
+ghost use Rattle.definitions.specs.Outputs.{printed, whole_output};
 ghost use Rattle.lists.specs.Written.{Fits, Written};
 ghost use Rattle.fuse_body.specs.Parts.{FusedAnswer, FusedWords};
 
@@ -88,11 +88,11 @@ fn put_answer(
 ) -> usize
     requires fused_answer { FusedAnswer a.now b.now answer fused.now sets.now }
     requires room { max_text ≤ length out.old }
-    ensures { Written out.old 0 (unions_output output a.now b.now) out.new result }
+    ensures { Written out.old 0 (unions_text (printed output) a.now b.now) out.new result }
 {
     match answer {
         Err(refusal) => put_refused(refusal, out),
-        // one of two outputs, by name: `OutputPromise` tells it
+        // one of two outputs, by name: `printed` tells it
         Ok(counts) => match output {
             Output::Listing => put_lines(a, b, fused, sets, counts, out),
             Output::Pages => pages::put_all(&fused[..counts.words], out),
@@ -103,7 +103,7 @@ fn put_answer(
 // The text for two images, with the buffers that are lent to the call.
 fn put_images(output: Output, a: &[u32], b: &[u32], out: &mut [u8]) -> usize
     requires { max_text ≤ length out.old }
-    ensures { Written out.old 0 (unions_output output a.now b.now) out.new result }
+    ensures { Written out.old 0 (unions_text (printed output) a.now b.now) out.new result }
 {
     let mut fused = [0u32; TABLE];
     let mut sets = [0u32; SETS];
@@ -115,7 +115,7 @@ fn put_images(output: Output, a: &[u32], b: &[u32], out: &mut [u8]) -> usize
 fn put_read(output: Output, board: &[u8], plant: &[u8], out: &mut [u8]) -> usize
     requires read { (length board.now ≤ max_bytes) × (length plant.now ≤ max_bytes) }
     requires room { max_text ≤ length out.old }
-    ensures { Written out.old 0 (read_output output board.now plant.now) out.new result }
+    ensures { Written out.old 0 (read_text (printed output) board.now plant.now) out.new result }
 {
     if board.len() % WORD_BYTES != 0 {
         return put_ragged(b"board.tbl", out);
@@ -133,7 +133,7 @@ fn put_read(output: Output, board: &[u8], plant: &[u8], out: &mut [u8]) -> usize
 // The whole output of a program for the bytes of the two files goes to the front of `out`; its length. A buffer of fewer than MAX_TEXT
 // bytes stays as it is, whatever the text: so no output depends on how long a buffer was lent.
 pub fn output_text(output: Output, board: &[u8], plant: &[u8], out: &mut [u8]) -> Option<usize>
-    ensures { OutputPromise output board.now plant.now out.old result out.new }
+    ensures { TextPromise (whole_output output board.now plant.now) out.old result out.new }
 {
     if out.len() < MAX_TEXT {
         return None;
@@ -146,7 +146,7 @@ pub fn output_text(output: Output, board: &[u8], plant: &[u8], out: &mut [u8]) -
 // The whole listing for the bytes of the two files, as `output_text` puts it: the public name that stood before there were pages, and stays
 // beside it.
 pub fn fuse_text(board: &[u8], plant: &[u8], out: &mut [u8]) -> Option<usize>
-    ensures { TextPromise board.now plant.now out.old result out.new }
+    ensures { TextPromise (fuse_text board.now plant.now) out.old result out.new }
 {
     output_text(Output::Listing, board, plant, out)
 }

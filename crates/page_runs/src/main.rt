@@ -1,7 +1,7 @@
 // Runs of the page call: the fused table of document 01, tables of many rows and columns, and refusals.
 #![tactic(auto)]
 
-mod paper;
+mod example;
 mod refusals;
 mod show;
 mod sizes;
@@ -10,7 +10,7 @@ mod table;
 use std::io;
 
 fn main(rt: HostRuntime) -> io::Result<()> {
-    paper::run(&rt)?;
+    example::run(&rt)?;
     sizes::run(&rt)?;
     refusals::run(&rt)
 }

@@ -1,10 +1,11 @@
 -- The words of a band that a line shows, and which band of an image a page shows. Assumes nothing.
 use Rattle.std.proofs.Common.{◌≡◌, sym, ◌∙◌, ap, ℕ, Bool, cond, ◌*◌, ◌/◌, ◌%◌, ◌<◌, List, [], get_or, map, arith}
 use native.Mathlib.Nat.{div-lt_iff_lt-mul}
+use Rattle.std.specs.Int.{div_ceil}
 use borrow.Author.Tests.{lt-ltb}
 use Rattle.definitions.specs.Image.{column_count, row_count, column_words, image_rows}
 use Rattle.definitions.specs.Text.{decimal, id_text, cell_text}
-use Rattle.definitions.specs.Page.{in_band, page_line, ids_line, cells_line, line_at, band_columns, band_page, parts_of, band_pages, page_count, page}
+use Rattle.definitions.specs.Page.{in_band, page_line, ids_line, cells_line, line_at, band_columns, band_page, band_pages, page_count, page}
 
 module _ (image : List ℕ) (band : ℕ) (whole part : List ℕ) (shown : part ≡ in_band band whole) where
   -- the line of the ids
@@ -22,7 +23,7 @@ module _ (image : List ℕ) (n parts : ℕ) (parts_are : parts ≡ band_pages im
   pub band_starts : band_columns * (n / parts) < column_count image
   band_starts =
       let some : 0 < band_pages image = omega arith in
-      let less : n / band_pages image < parts_of band_columns (column_count image) = (div-lt_iff_lt-mul some).1 exists in
+      let less : n / band_pages image < div_ceil (column_count image) band_columns = (div-lt_iff_lt-mul some).1 exists in
       rw parts_are (omega arith)
 
 -- the page of a part of a band

@@ -6,7 +6,7 @@ use Rattle.definitions.specs.Word.{id_of}
 use Rattle.definitions.specs.Text.{decimal, id_text, cell_text}
 use Rattle.definitions.specs.Page.{position_width, cell_width, blanks, flush_right, line_text, page_line, band_columns}
 use Rattle.definitions.proofs.PageLines.{LineFits, line_fits, line_end, line_parts, text_length, decimal_characters, cell_characters}
-use Rattle.definitions.proofs.Pages.{position_fits, id_fits, cell_fits, no_characters}
+use Rattle.definitions.proofs.Pages.{four_digits, id_fits, cell_fits, no_characters}
 use Rattle.pages.specs.Lines.{cells_text}
 
 line_cells : (f : ℕ → List ℕ) (position words : List ℕ) → LineFits position (map f words)
@@ -27,5 +27,5 @@ pub row_parts : (position : ℕ) (cells : List ℕ) → position < 10 ^ 4 → le
     → page_line (decimal position) (map cell_text cells) ≡ flush_right position_width (decimal position) ++ cells_text cell_text cells
 row_parts position cells small few =
     line_cells cell_text (decimal position) cells
-    (line_fits cell_text (decimal position) cells (position_fits position small) (decimal_characters position) few
+    (line_fits cell_text (decimal position) cells (four_digits position small) (decimal_characters position) few
     (λ w m. (cell_fits w, cell_characters w)))

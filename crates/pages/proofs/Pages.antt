@@ -1,5 +1,6 @@
 -- The answers of the call of a page. Assumes nothing.
 use Rattle.std.proofs.Common.{◌≡◌, sym, ◌∙◌, ap, ℕ, Bool, ◌<◌, ◌≤◌, List, [], ◌∷◌, ◌++◌, length, drop, Result, Ok, Err, arith, zero-add}
+use Rattle.std.specs.Prelude.{leb}
 use borrow.Author.Tests.{lt-ltb, le-ltb}
 use Rattle.definitions.specs.declared.refusal.Refusal.{Refusal}
 use Rattle.definitions.specs.declared.refusal.Question.TheVariants.{Page, PageRoom}
@@ -8,7 +9,7 @@ use Rattle.definitions.specs.Refusal.{put_to}
 use Rattle.definitions.specs.Limits.{max_stored_rows}
 use Rattle.definitions.specs.Questions.{image_number}
 use Rattle.definitions.specs.Answer.{Outcome, done, unless, or_refused, no, afterwards, page_says}
-use Rattle.definitions.specs.Page.{page_count, page, page_bytes, bytes_outcome, exists_outcome, page_outcome}
+use Rattle.definitions.specs.Page.{page_count, page, page_bytes, exists_outcome, page_outcome}
 use Rattle.definitions.specs.PageClaims.{PageDone}
 use Rattle.definitions.specs.Promise.{PagePromise}
 use Rattle.definitions.proofs.Outcomes.{asked_no, asked_yes}
@@ -22,18 +23,22 @@ page_fits image n found h = omega (arith, page-length image n)
 -- ---- the questions of the page
 
 module _ (image : List ℕ) (n room : ℕ) where
+  -- question 16, and what a done answer carries
+  abbrev asked_room : Outcome
+  asked_room = unless (no (leb page_bytes room) 16) 2 (done (page_count image ∷ []))
+
   pub no-page : (r : Refusal) → r ≡ put_to Both Page → page_count image ≤ n → page_says (Err r) ≡ exists_outcome image n room
-  no-page r e h = ap (λ (x : Refusal). page_says (Err x)) e ∙ sym (ap (λ (b : Bool). unless (no b 15) 2 (bytes_outcome image room)) (le-ltb n (page_count image) h))
+  no-page r e h = ap (λ (x : Refusal). page_says (Err x)) e ∙ sym (ap (λ (b : Bool). unless (no b 15) 2 asked_room) (le-ltb n (page_count image) h))
 
   module _ (exists : n < page_count image) where
-    asked_room : exists_outcome image n room ≡ bytes_outcome image room
-    asked_room = ap (λ (b : Bool). unless (no b 15) 2 (bytes_outcome image room)) (lt-ltb n (page_count image) exists)
+    then_room : exists_outcome image n room ≡ asked_room
+    then_room = ap (λ (b : Bool). unless (no b 15) 2 asked_room) (lt-ltb n (page_count image) exists)
 
     pub no_room : (r : Refusal) → r ≡ put_to Both PageRoom → room < page_bytes → page_says (Err r) ≡ exists_outcome image n room
-    no_room r e h = ap (λ (x : Refusal). page_says (Err x)) e ∙ asked_no page_bytes room 15 _ h ∙ sym asked_room
+    no_room r e h = ap (λ (x : Refusal). page_says (Err x)) e ∙ asked_no page_bytes room 15 _ h ∙ sym then_room
 
     pub a_page : (pages : ℕ) → pages ≡ page_count image → page_bytes ≤ room → page_says (Ok pages) ≡ exists_outcome image n room
-    a_page pages e h = ap (λ (k : ℕ). done (k ∷ [])) e ∙ asked_yes page_bytes room 16 _ h ∙ sym asked_room
+    a_page pages e h = ap (λ (k : ℕ). done (k ∷ [])) e ∙ asked_yes page_bytes room 16 _ h ∙ sym then_room
 
 -- ---- the call: an image is asked about, and then its page
 

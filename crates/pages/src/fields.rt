@@ -9,7 +9,7 @@ use text::{Style, Writer};
 pub(crate) const CELL_WIDTH: usize = 12;
 
 // A value flushed right in `width` characters.
-pub(crate) fn right<S: Style>(value: S::Value, width: usize, out: &mut Writer)
+pub(crate) fn flush_right<S: Style>(value: S::Value, width: usize, out: &mut Writer)
     requires narrow { (length (S.shown value) ≤ width) × (width ≤ cell_width) }
     requires room { HasRoom out.old (flush_right width (S.shown value)) }
     ensures { Wrote out.old (flush_right width (S.shown value)) out.new }

@@ -15,7 +15,7 @@ const BAND_COLUMNS: usize = 6;
 
 const PAGE_ROWS: usize = 59;
 
-// An accepted image of a table that may be stored.
+// An accepted image of a table that may be stored: of up to 1,024 rows.
 pub(crate) type Stored<'a> = Image<'a, MAX_STORED_ROWS>;
 
 // The words of a band, of those of a row or of the columns.

@@ -5,7 +5,7 @@ ghost use Rattle.definitions.specs.Page.{cell_width, page_line, band_columns};
 ghost use Rattle.pages.specs.Lines.{cells_text};
 ghost use Rattle.text.specs.Writer.{HasRoom, Wrote};
 
-use crate::fields::{CELL_WIDTH, right};
+use crate::fields::{CELL_WIDTH, flush_right};
 use text::{Cell, Id, Number, Style, Writer};
 
 // "lines of exactly 80 characters": "Characters 1–4 hold the row position".
@@ -21,7 +21,7 @@ fn put_cells<S: Style<Value = u32>>(words: &[u32], out: &mut Writer)
     ensures { Wrote out.old (cells_text S.shown words.now) out.new }
 {
     for word in words {
-        right::<S>(*word, CELL_WIDTH, out);
+        flush_right::<S>(*word, CELL_WIDTH, out);
     }
     out.blanks(LINE_WIDTH - (POSITION_WIDTH + words.len() * CELL_WIDTH));
     out.newline();
@@ -43,6 +43,6 @@ pub(crate) fn row_line(position: usize, cells: &[u32], out: &mut Writer)
     requires room { HasRoom out.old (page_line (decimal position) (map cell_text cells.now)) }
     ensures { Wrote out.old (page_line (decimal position) (map cell_text cells.now)) out.new }
 {
-    right::<Number>(position, POSITION_WIDTH, out);
+    flush_right::<Number>(position, POSITION_WIDTH, out);
     put_cells::<Cell>(cells, out);
 }

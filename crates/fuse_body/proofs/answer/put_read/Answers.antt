@@ -1,6 +1,7 @@
 -- A ragged file, board first, or the text of the images.
 use Rattle.std.proofs.Common.{◌∙◌, ap₂}
-use Rattle.definitions.specs.Outputs.{unions_output}
+use Rattle.definitions.specs.Program.{unions_text}
+use Rattle.definitions.specs.Outputs.{printed}
 use Rattle.lists.proofs.Writing.{as_written}
 use Rattle.fuse_body.proofs.Texts.{ragged_board, ragged_plant, whole_words, read_fits}
 use Rattle.fuse_body.proofs.answer.put_read.Goals as goal
@@ -29,6 +30,6 @@ returns-then-plant-ne0 c =
 pub returns : goal.returns
 returns c =
     let s = c.args in
-    let words = ap₂ (unions_output s.output) c.decode-a.ensures.holds c.decode-b.ensures.holds in
+    let words = ap₂ (unions_text (printed s.output)) c.decode-a.ensures.holds c.decode-b.ensures.holds in
     as_written (words ∙ whole_words s.output s.board.now s.plant.now c.if-board-ne0.false c.if-plant-ne0.false)
     c.put_images.ensures

@@ -6,11 +6,11 @@ use Rattle.pages.proofs.lines.put_cells.Goals as goal
 pub loop-word-init : goal.loop-word-init
 loop-word-init g c = each_start _ _ _ _ c.requires.room
 
-pub right-requires-clause-room : goal.right-requires-clause-room
-right-requires-clause-room g c = each_fits c.loop-word.invariant _ 0 (omega arith) refl _ refl c.requires.room
+pub flush_right-requires-clause-room : goal.flush_right-requires-clause-room
+flush_right-requires-clause-room g c = each_fits c.loop-word.invariant _ 0 (omega arith) refl _ refl c.requires.room
 
 pub loop-word-preserved : goal.loop-word-preserved
-loop-word-preserved g c = each_turn c.loop-word.invariant _ 0 (omega arith) refl c.right.ensures
+loop-word-preserved g c = each_turn c.loop-word.invariant _ 0 (omega arith) refl c.flush_right.ensures
 
 pub blanks-requires : goal.blanks-requires
 blanks-requires g c = first_fits (10 ∷ []) refl (behind_fits refl c.requires.room (each_end c.loop-word.invariant (omega arith)))

@@ -2,7 +2,7 @@
 use Rattle.std.proofs.Common.{ap, ◌∙◌, ℕ, ◌-◌}
 use Rattle.definitions.specs.Page.{blanks}
 use Rattle.text.proofs.Writing.{wrote_as, then_wrote, new_text, new_length}
-use Rattle.pages.proofs.fields.right.Goals as goal
+use Rattle.pages.proofs.fields.flush_right.Goals as goal
 
 pub returns : goal.returns
 returns g c =
