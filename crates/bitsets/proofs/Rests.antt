@@ -4,6 +4,7 @@ use mathlib.Core.Bool.{Bool, true, false, not, ◌&&◌, ◌||◌, and-true, and
 use Prim.Native.Nat.{ℕ}
 use lib.Dec.{eqb}
 use borrow.Author.Tests.{eqb-true, eqb-false}
+use Rattle.std.proofs.Math.Bool.{and-not_self}
 use Rattle.std.proofs.lemmas.Bool.{and_parts}
 use Rattle.definitions.proofs.Bools.{bool_cases, bool_eq, clash}
 use Rattle.bitsets.specs.Bits.{has, without_lowest}
@@ -21,11 +22,7 @@ pub passed_in : (rows rest k : ℕ) → passed rows rest k ≡ true → has rows
 passed_in rows rest k h = (and_parts (has rows k) (not (has rest k)) h).0
 
 pub passed_none : (rows k : ℕ) → passed rows rows k ≡ false
-passed_none rows k = none (has rows k)
-  where
-    none : (b : Bool) → (b && not b) ≡ false
-    none true = refl
-    none false = refl
+passed_none rows k = and-not_self (has rows k)
 
 pub passed_all : (rows rest k : ℕ) → rest ≡ 0 → passed rows rest k ≡ has rows k
 passed_all rows rest k e = ap (λ (b : Bool). has rows k && not b) (ap (λ (x : ℕ). has x k) e ∙ has_none k) ∙ and-true (has rows k)

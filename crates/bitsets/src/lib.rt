@@ -11,9 +11,6 @@ mod members;
 
 pub use members::Members;
 
-// The positions that a word holds.
-pub const WORD_BITS: usize = u64::BITS as usize;
-
 // The word that holds every position.
 pub const ALL_ROWS: u64 = u64::MAX;
 

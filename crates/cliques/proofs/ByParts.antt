@@ -1,5 +1,5 @@
 -- The maximal sets of all rows are those of a part and those of the others; those of a part hold its common rows, and beside them a maximal
--- set of its other rows. So sets that are listed part by part are all of them, none twice: `parts-adds`. Assumes nothing.
+-- set of its other rows. So sets that are listed part by part are all of them, none twice: `parts_adds`. Assumes nothing.
 use mathlib.Core.Path.{◌≡◌, refl, sym, ap, ◌∙◌, subst}
 use mathlib.Core.Logic.{◌⊎◌, inl, inr}
 use mathlib.Core.List.{List, ◌++◌, map}

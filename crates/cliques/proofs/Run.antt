@@ -1,4 +1,4 @@
--- A run of the search lists each maximal set of its rows once, unless the list is full: `run-adds`. Assumes nothing.
+-- A run of the search lists each maximal set of its rows once, unless the list is full: `run_adds`. Assumes nothing.
 use mathlib.Core.Path.{◌≡◌, refl, sym, ap, ◌∙◌, subst}
 use mathlib.Core.Logic.{◌⊎◌, inl, inr, ⊎_elim}
 use mathlib.Core.Bool.{true, false}

@@ -49,8 +49,8 @@ fn add_to_each(rows: u64, list: &mut [u64])
     }
 }
 
-// Lists the maximal sets of a part after the first count sets, and gives the grown count, as `search` does. The rows that are in all of them are left out of the
-// search, and put into each set afterwards.
+// Lists the maximal sets of a part after the first count sets, and gives the grown count, as `search` does. The rows that are in all of
+// them are left out of the search, and put into each set afterwards.
 fn list_part(neighbours: &[u64], part: u64, list: &mut [u64; MAX_SETS + 1], count: usize) -> usize
     requires { RowsOf word_bits neighbours.now part × (count ≤ max_sets) }
     ensures { (result ≤ suc max_sets)

@@ -85,9 +85,6 @@ module _ (columns : List ℕ) (rows : List (List ℕ)) (few : length columns < 2
   pub image_cells : cell_words (image_of columns rows) ≡ flatten rows
   image_cells = ap cell_words (sym (append-nil (image_of columns rows))) ∙ cells_front columns rows few [] ∙ append-nil (flatten rows)
 
-  pub image_rows_lem : length rows < 2 ^ 12 → ((r : List ℕ) → Member r rows → length r ≡ length columns) → image_rows (image_of columns rows) ≡ rows
-  image_rows_lem g f = ap image_rows (sym (append-nil (image_of columns rows))) ∙ image_rows_front columns rows few [] g f
-
 -- the words of the first n rows
 pub words_rows : (c n : ℕ) (words : List ℕ) → flatten (rows_in c n words) ≡ take (n * c) words
 unfolding flatten

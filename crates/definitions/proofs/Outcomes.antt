@@ -1,12 +1,8 @@
 -- What it is for a pair to be accepted and for a call to be done: a yes to each question, and the values that the answer carries.
 -- Assumes nothing.
-use Rattle.std.proofs.Common.{Result, Ok, Err, MatchResult, IsErrAnd}
-use Rattle.std.specs.Prelude.{⊤}
 use Rattle.definitions.specs.declared.refusal.Question.{Question}
 use Rattle.definitions.specs.declared.refusal.Question.TheVariants as question
-use Rattle.definitions.specs.declared.refusal.Subject.{Subject}
-use Rattle.definitions.specs.declared.refusal.Refusal.{Refusal}
-use Rattle.definitions.specs.Refusal.{question_number, table_number, put_to, number_said}
+use Rattle.definitions.specs.Refusal.{question_number}
 use mathlib.Core.Path.{◌≡◌, refl, sym, ◌∙◌, ap}
 use mathlib.Core.Bool.{Bool, true, false}
 use mathlib.Core.Logic.{◌↔◌}
@@ -22,7 +18,7 @@ use Rattle.definitions.specs.MinimumUnion.{filled, minimum_rows, pairs_tried}
 use Rattle.definitions.specs.ComplementUnion.{union_sets}
 use Rattle.definitions.specs.SetList.{set_list}
 use Rattle.definitions.specs.Questions.{image_number}
-use Rattle.definitions.specs.Answer.{Outcome, done, refused, unless, no, or_refused}
+use Rattle.definitions.specs.Answer.{Outcome, done, refused, unless, no}
 use Rattle.definitions.specs.Claims.{TableDone, ComplementDone}
 use Rattle.definitions.specs.Calls.{Accepted, pair_outcome, enough_room, outer_image, minimum_image, fused_image, outer_outcome, minimum_outcome, complement_outcome}
 
@@ -33,12 +29,7 @@ unless_done (suc number) table rest values e = absurd (let z : ◌≡◌ {A = �
 pub unless_passed : (number table : ℕ) (rest : Outcome) → number ≡ 0 → unless number table rest ≡ rest
 unless_passed number table rest e = ap (λ (k : ℕ). unless k table rest) e
 
--- a number other than 0 refuses, whatever would follow
-pub unless_refused_lem : (number table : ℕ) (rest : Outcome) → (number ≡ 0 → ⊥) → unless number table rest ≡ refused number table
-unless_refused_lem zero table rest h = absurd (h refl)
-unless_refused_lem (suc number) table rest h = refl
-
-pub no_yes : (b : Bool) (number : ℕ) → no b (suc number) ≡ 0 → b ≡ true
+no_yes : (b : Bool) (number : ℕ) → no b (suc number) ≡ 0 → b ≡ true
 no_yes true number e = refl
 no_yes false number e = absurd (omega arith)
 
@@ -149,14 +140,3 @@ unless_question question.Records table rest = refl
 unless_question question.SetOrder table rest = refl
 unless_question question.Page table rest = refl
 unless_question question.PageRoom table rest = refl
-
--- a question whose no is put to a table: what it leaves of a call
-pub question_put : (subject : Subject) (n : ℕ) (Q : Question → Refusal → Type 0) → ((q : Question) (f : Refusal) → Q q f → f ≡ put_to subject q)
-    → (asked : Result ⊤ Question) (r : Result ⊤ Refusal) → number_said asked ≡ n → MatchResult asked (λ x. r ≡ Ok x) (λ q. IsErrAnd r (Q q))
-    → (rest : Outcome) → unless n (table_number subject) rest ≡ or_refused r rest
-question_put subject n Q f (Ok x) r e m rest =
-    ap (λ (k : ℕ). unless k (table_number subject) rest) (sym e) ∙ ap (λ (s : Result ⊤ Refusal). or_refused s rest) (sym m)
-question_put subject n Q f (Err q) (Ok x) e m rest = absurd m
-question_put subject n Q f (Err q) (Err y) e m rest =
-    ap (λ (k : ℕ). unless k (table_number subject) rest) (sym e) ∙ unless_question q (table_number subject) rest
-    ∙ ap (λ (z : Refusal). or_refused {A = ⊤} (Err z) rest) (sym (f q y m))

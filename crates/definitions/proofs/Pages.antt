@@ -1,6 +1,5 @@
 -- Request A3: the pages of a table. Each has 60 lines, no cell is lost or cut, and there are at most 54. Assumes nothing.
 use mathlib.Core.Path.{◌≡◌, refl, sym, ◌∙◌, ap, ap₂, subst}
-use mathlib.Core.Bool.{Bool}
 use mathlib.Core.Logic.{◌↔◌, ⊎_elim}
 use mathlib.Core.List.{List, [], ◌∷◌, ◌++◌, map, flatten}
 use Prim.Native.Nat.{ℕ, suc, ◌+◌, ◌*◌, ◌/◌, ◌%◌, ◌^◌, ◌≤◌, ◌<◌}
@@ -32,7 +31,7 @@ use Rattle.definitions.proofs.Flat.{Wide, flat_row, flat_part}
 use Rattle.definitions.proofs.Tabulate.{tabulate-length, tabulate-get, tabulate-member}
 use Rattle.definitions.proofs.Questions.{passed_is}
 use Rattle.definitions.proofs.Images.{passed_ids, passed_rows, rows_length}
-use Rattle.definitions.proofs.Outcomes.{unless_done, unless_passed, no_yes, within_done, within_passed, same_values}
+use Rattle.definitions.proofs.Outcomes.{unless_done, unless_passed, within_done, within_passed, same_values}
 use Rattle.definitions.proofs.Digits.{decimal-length}
 use Rattle.definitions.proofs.Cells.{cell_length}
 use Rattle.definitions.proofs.PageLines.{Characters, LineFits, line_fits, IsLine, is_line, line_position, line_cell, decimal_characters, cell_characters}
@@ -298,13 +297,13 @@ page_done image n room values = (
       let s = unless_done (no (leb page_bytes room) 16) 2 _ values q.1 in
       record {
         accepted = (passed_is max_stored_rows image).0 p.0;
-        exists = ltb-true n (page_count image) (no_yes (ltb n (page_count image)) 14 q.0);
+        exists = omega (arith, within_done (suc n) (page_count image) 14 q.0);
         bytes_room = within_done page_bytes room 15 s.0;
         carries = same_values _ values s.1;
       },
   λ d.
       unless_passed _ 0 _ ((passed_is max_stored_rows image).1 d.accepted)
-      ∙ unless_passed _ 2 _ (ap (λ (b : Bool). no b 15) (lt-ltb n (page_count image) d.exists))
+      ∙ unless_passed _ 2 _ (within_passed (suc n) (page_count image) 15 (omega (arith, d.exists)))
       ∙ unless_passed _ 2 _ (within_passed page_bytes room 16 d.bytes_room)
       ∙ ap done (sym d.carries),
 )

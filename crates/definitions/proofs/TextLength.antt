@@ -24,7 +24,7 @@ use Rattle.definitions.specs.Text.{ascii}
 use Rattle.definitions.specs.Listing.{line, columns_line, union_title, minimum_title, sets_title, fused_title}
 use Rattle.definitions.specs.Listing.{row_line, set_line}
 use Rattle.definitions.specs.Program.{row_lines, set_lines, union_text, minimum_text, sets_text, fused_text, listing}
-use Rattle.definitions.specs.Program.{max_bytes, words_of, lent_table, lent_sets, unless_refused, unions_text, read_text, whole_text, fuse_text}
+use Rattle.definitions.specs.Program.{max_bytes, words_of, lent_table, lent_sets, unless_refused, unions_text, read_text, whole_text}
 use Rattle.definitions.specs.Outputs.{printed, whole_output}
 use Rattle.definitions.specs.Program.{row_bytes, set_bytes, max_text}
 use Rattle.definitions.specs.Statements.{Member}
@@ -224,7 +224,3 @@ read_bound output board plant =
 pub output_bound : (output : Output) (board plant : List ℕ) → length (whole_output output board plant) ≤ max_text
 unfolding whole_text
 output_bound output board plant = read_bound output (take max_bytes board) (take max_bytes plant)
-
--- that of `fuse` among them
-pub text_bound : (board plant : List ℕ) → length (fuse_text board plant) ≤ max_text
-text_bound = output_bound Listing

@@ -75,10 +75,11 @@ band_page image band part = ids_line image band ++ flatten (tabulate page_rows (
 
 -- ---- the pages of a table
 
--- "A table without rows has one page a band."
+-- "59 rows a page", on the last one perhaps fewer; "A table without rows has one page a band."
 abbrev pub band_pages : List ℕ → ℕ
 band_pages image = max 1 (div_ceil (row_count image) page_rows)
 
+-- the pages of all bands; the last band may have fewer than six columns
 abbrev pub page_count : List ℕ → ℕ
 page_count image = div_ceil (column_count image) band_columns * band_pages image
 

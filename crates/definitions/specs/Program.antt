@@ -81,9 +81,9 @@ abbrev pub unless_refused : Outcome → List ℕ → List ℕ
 unless_refused (done values) text = text
 unless_refused (refused number table) text = refused_line number table
 
--- the text for two images; `text` is what is printed of them where complement union isn't refused
+-- the text for two images; `printed` tells what is printed of them where complement union isn't refused
 unfoldable pub unions_text : (List ℕ → List ℕ → List ℕ) → List ℕ → List ℕ → List ℕ
-unions_text text a b = unless_refused (complement_outcome a b lent_table lent_sets) (text a b)
+unions_text printed a b = unless_refused (complement_outcome a b lent_table lent_sets) (printed a b)
 
 -- "If the bytes read of a file aren't a multiple of 4, its whole output is one line, `ragged` and that file's name"
 abbrev pub unless_ragged : List ℕ → List ℕ → List ℕ → List ℕ
@@ -91,14 +91,14 @@ unless_ragged name bytes text = cond (eqb (length bytes % 4) 0) text (ragged_lin
 
 -- what is written for the bytes read; "board.tbl is named if both are so"
 unfoldable pub read_text : (List ℕ → List ℕ → List ℕ) → List ℕ → List ℕ → List ℕ
-read_text text board plant =
+read_text printed board plant =
     unless_ragged (ascii "board.tbl") board
     (unless_ragged (ascii "plant.tbl") plant
-    (unions_text text (words_of board) (words_of plant)))
+    (unions_text printed (words_of board) (words_of plant)))
 
 -- the whole output for the bytes of two files
 unfoldable pub whole_text : (List ℕ → List ℕ → List ℕ) → List ℕ → List ℕ → List ℕ
-whole_text text board plant = read_text text (take max_bytes board) (take max_bytes plant)
+whole_text printed board plant = read_text printed (take max_bytes board) (take max_bytes plant)
 
 -- that of `fuse`
 abbrev pub fuse_text : List ℕ → List ℕ → List ℕ

@@ -83,7 +83,7 @@ PagesAreWhole =
     → IsPage (take page_bytes bytes_after) × (drop page_bytes bytes_after ≡ drop page_bytes bytes)
 
 -- "Pages count from 0, and a done answer carries how many there are": one at least, and 54 at most; of the calls with at least 4,860
--- bytes those of the pages below that number are done
+-- bytes exactly those of the pages below that number are done
 abbrev pub PagesAreCounted : Type 0
 PagesAreCounted =
     (image : List ℕ) (n : ℕ) (bytes values bytes_after : List ℕ) → PagePromise image n bytes (done values) bytes_after

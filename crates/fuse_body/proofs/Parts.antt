@@ -43,10 +43,9 @@ use Rattle.definitions.proofs.Reading.{positions_read, position_read, records_re
 use Rattle.definitions.proofs.UnionColumns.{columns_ids, columns_few}
 use Rattle.definitions.proofs.TableWords.{Table, columns_front, rows_front, table_front, table_words}
 use Rattle.definitions.proofs.FusedPasses.{fused_passes}
-use Rattle.lists.proofs.Flat.{rows_local}
+use Rattle.lists.proofs.Flat.{rows_local, chunk_rows}
 use Rattle.listing.specs.Lines.{HasRows, first_rows, table_lines, union_lines, record_line, records_lines, list_lines}
 use Rattle.fuse_body.specs.Parts.{IsDone, FusedAnswer, FusedWords}
-use Rattle.lists.proofs.Flat.{chunk_rows}
 
 -- ---- a table at the front of a buffer
 

@@ -15,7 +15,7 @@ use rows::Rows;
 use text::Writer;
 
 // The first `len` rows of the image in a lent buffer, of which the call has told how many they are.
-fn image_rows(image: &[u32], len: usize) -> Rows
+fn first_rows(image: &[u32], len: usize) -> Rows
     requires { HasRows image.now len }
     ensures columns { result.width ≡ column_count image.now }
     ensures first { rows_of result ≡ first_rows image.now len }
@@ -38,7 +38,7 @@ fn put_union(a: &[u32], b: &[u32], table: &mut [u32], out: &mut Writer)
     };
     // From here on the buffer is lent to be read alone, so that its column words and its rows can be lent beside each other.
     let image = &table[..];
-    let rows = image_rows(image, counts.rows);
+    let rows = first_rows(image, counts.rows);
     union_lines(&image[1..1 + rows.width], &rows, counts.filled, out);
 }
 
@@ -52,7 +52,7 @@ fn put_minimum(a: &[u32], b: &[u32], table: &mut [u32], out: &mut Writer)
         return;
     };
     let numbers = [counts.rows, counts.filled, counts.pairs];
-    let rows = image_rows(table, counts.rows);
+    let rows = first_rows(table, counts.rows);
     table_lines(b"minimum", &numbers, &rows, out);
 }
 
@@ -75,6 +75,6 @@ pub(crate) fn put_listing(
     let (records, _) = sets[1..1 + counts.sets * SET_WIDTH].as_chunks();
     sets_lines(records, out);
     let numbers = [counts.rows, counts.filled];
-    let rows = image_rows(fused, counts.rows);
+    let rows = first_rows(fused, counts.rows);
     table_lines(b"fused", &numbers, &rows, out);
 }

@@ -4,10 +4,10 @@ use mathlib.Core.Path.{◌≡◌, sym, ◌∙◌, ap, subst}
 use mathlib.Core.List.{List, []}
 use Prim.Native.Nat.{ℕ, ◌+◌, ◌*◌, ◌<◌, ◌≤◌}
 use native.Mathlib.Omega.{arith}
-use lib.ListN.{length, get_or, set, length-set, length-map, get_or-map}
+use lib.ListN.{length, get_or, set, length-set, length-map}
 use lib.Seq.{get_or-set_same, get_or-set_other, ext_get_or}
 use borrow.Author.Count.{below_more}
-use Rattle.std.proofs.lemmas.List.{get_or-map as map_at}
+use Rattle.std.proofs.lemmas.List.{get_or-map}
 use Rattle.definitions.proofs.Images.{rows_length}
 use Rattle.definitions.specs.Image.{rows_in}
 use Rattle.definitions.specs.Lists.{find_index}
@@ -43,13 +43,13 @@ module _ (c n : ℕ) (w l : List ℕ) (fits : n * c ≤ length w) (o : Ordered c
   position_is : (i : ℕ) → i < n → get_or all_positions i 0 ≡ find_index (same_row (row_at c w i)) (rows_at c w l)
   unfolding positions_in
   position_is i more =
-      map_at (λ s. find_index (same_row s) (rows_at c w l)) (rows_in c n w) i [] 0 (omega (arith, rows_length c n w))
+      get_or-map (λ s. find_index (same_row s) (rows_at c w l)) (rows_in c n w) i [] 0 (omega (arith, rows_length c n w))
       ∙ ap (λ (s : List ℕ). find_index (same_row s) (rows_at c w l)) (rows_at_lem c n i w more)
 
   -- the index of the row i stands at p
   position_named : (i p : ℕ) → i < n → p < length l → get_or l p 0 ≡ i → p ≡ get_or all_positions i 0
   position_named i p more h e =
-      let same : get_or (rows_at c w l) p (row_at c w 0) ≡ row_at c w i = get_or-map (row_at c w) l p 0 ∙ ap (row_at c w) e in
+      let same : get_or (rows_at c w l) p (row_at c w 0) ≡ row_at c w i = get_or-map (row_at c w) l p 0 (row_at c w 0) h ∙ ap (row_at c w) e in
       sym
       (position_is i more
       ∙ ap (λ (s : List ℕ). find_index (same_row s) (rows_at c w l)) (sym same)

@@ -1,7 +1,7 @@
 // The graph of T: which rows complement each other. They agree in every column, and of their filled columns some are each row's own and
 // some are common: of these one must count, that is, be marked where any column of the union is. All this is told of all rows at once, by
 // a bit a row, column by column.
-ghost use Rattle.std.specs.Prelude.{◌≡◌, ◌≤◌, ◌<◌, length, get_or};
+ghost use Rattle.std.specs.Prelude.{◌≡◌, ◌≤◌, ◌<◌, length};
 ghost use Rattle.definitions.specs.Limits.{max_columns};
 ghost use Rattle.definitions.specs.Lists.{any};
 ghost use Rattle.definitions.specs.Word.{mark_of};

@@ -1,5 +1,5 @@
 // The rows with equal cells in a column, as groups: one row of each leads those that have the same.
-ghost use Rattle.std.specs.Prelude.{◌≡◌, ◌<◌, ◌≤◌, length, get_or};
+ghost use Rattle.std.specs.Prelude.{◌≡◌, ◌<◌, length, get_or};
 ghost use Rattle.definitions.specs.Limits.{max_union_rows};
 ghost use Rattle.bitsets.specs.Bits.{Inside};
 ghost use Rattle.fusing.specs.Groups.{cell_at, LeaderOf, Groups};

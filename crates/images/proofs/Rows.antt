@@ -1,7 +1,7 @@
 -- The image of rows that are told by their indices, written over the front of a buffer: what `write_image` and `put_image` give.
 -- Assumes nothing.
 use mathlib.Core.Path.{◌≡◌, refl, sym, ◌∙◌, ap, ap₂}
-use mathlib.Core.List.{List, [], ◌∷◌, ◌++◌, flatten}
+use mathlib.Core.List.{List, [], ◌∷◌, flatten}
 use Prim.Native.Nat.{ℕ, ◌+◌, ◌-◌, ◌*◌, ◌≤◌, ◌<◌}
 use native.Mathlib.Nat.{mul-le-mul, add-sub_cancel_left}
 use native.Mathlib.Omega.{arith}
@@ -78,10 +78,6 @@ module _ {columns : List ℕ} {t : Rows} {order : List ℕ} (k : Writable column
   image_values found after f w more =
       ap₂ (λ (x : ℕ) (l : List ℕ). x ∷ l) (sym count) (ap₂ (λ (x y : ℕ). x ∷ y ∷ more) image_words w.count)
 
-  pub image_over : (found after : List ℕ) (f : ℕ) → WrittenImage columns rows found after f
-      → after ≡ image ++ drop (length image) found
-  image_over found after f w = w.words
-
   -- ---- the returns of `put_image`
 
   module _ (found : List ℕ) where
@@ -100,6 +96,6 @@ module _ {columns : List ℕ} {t : Rows} {order : List ℕ} (k : Writable column
       promise = λ more. record {
         answers = ap done (image_values found after f w more)
             ∙ asked_yes (length image) (length found) 10 _ (omega (arith, image_words));
-        writes = image_over found after f w;
+        writes = w.words;
       };
     }

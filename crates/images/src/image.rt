@@ -1,7 +1,7 @@
 // An accepted image and its parts.
 ghost use Rattle.std.specs.Prelude.{◌≡◌, ◌<◌, ◌≤◌, [], length, get_or};
 ghost use Rattle.definitions.specs.Limits.{max_columns};
-ghost use Rattle.definitions.specs.Image.{column_count, row_count, column_words, image_rows};
+ghost use Rattle.definitions.specs.Image.{header, column_count, row_count, column_words, image_rows};
 ghost use Rattle.definitions.specs.Questions.{image_number};
 
 // The words of an image to which the questions 1 to 7 are answered yes, with at most ROWS rows.
@@ -12,18 +12,24 @@ pub struct Image<'a, const ROWS: usize> {
 }
 
 impl<'a, const ROWS: usize> Image<'a, ROWS> {
+    fn header(self) -> u32
+        ensures { result ≡ header self.entry.words.now }
+    {
+        self.words[0]
+    }
+
     pub fn columns(self) -> usize
         ensures count { result ≡ column_count self.entry.words.now }
         ensures few { result ≤ max_columns }
     {
-        words::columns(self.words[0]) as usize
+        words::columns(self.header()) as usize
     }
 
     pub fn rows(self) -> usize
         ensures count { result ≡ row_count self.entry.words.now }
         ensures few { result ≤ ROWS }
     {
-        words::rows(self.words[0]) as usize
+        words::rows(self.header()) as usize
     }
 
     pub fn column_words(self) -> &'a [u32]

@@ -50,7 +50,7 @@ pub fn put_image(
     ensures { PutImage column_words.now (chosen rows.now order.now) (length order.now)
         buffer.old result buffer.new }
 {
-    // The size stands here, in `check_image` and in complement union: it is one sum, of what each has at hand.
+    // The size stands here, in `write_image`, in `check_image` and in complement union: it is one sum, of what each has at hand.
     let words = 1 + column_words.len() + order.len() * column_words.len();
     if buffer.len() < words {
         return Err(Refusal::from(Question::TableRoom));

@@ -1,17 +1,15 @@
 -- Laws of a set line: the positions of a record, bit by bit and word by word, and the fields behind them. Assumes nothing.
 use Rattle.std.proofs.Common.{◌≡◌, refl, sym, ◌∙◌, ap, ℕ, ◌+◌, ◌*◌, ◌%◌, ◌^◌, ◌<◌, ◌≤◌, List, [], ◌∷◌, ◌++◌, map, length, get_or, take, append_assoc, arith}
 use mathlib.Core.Bool.{Bool}
-use Rattle.bitsets.specs.Bits.{lowest, without_lowest}
 use Rattle.bitsets.specs.Members.{Next}
-use Rattle.bitsets.proofs.Bits.{digit_below, lowest_inside, rest_less}
-use Rattle.bitsets.proofs.Positions.{positions_below, positions_none, positions_next}
+use Rattle.bitsets.proofs.Positions.{positions_below, positions_none}
 use Rattle.definitions.specs.Limits.{mark_words, marks_per_word}
 use Rattle.definitions.specs.Reading.{positions_of, positions_in, joined_position}
 use Rattle.definitions.specs.Text.{ascii, decimal}
 use Rattle.definitions.specs.Listing.{title_line, set_line}
 use Rattle.definitions.proofs.Marks.{front_set}
 use Rattle.set_lists.specs.Marks.{word_positions}
-use Rattle.set_lists.proofs.Positions.{word_positions_lem, marked_from, marked_next, marked_end}
+use Rattle.set_lists.proofs.Positions.{word_positions_lem, others_small, next_position, marked_from, marked_next, marked_end}
 use Rattle.text.specs.declared.Writer.{Writer}
 use Rattle.text.specs.Writer.{HasRoom, Wrote}
 use Rattle.text.specs.Bytes.{space}
@@ -53,32 +51,25 @@ word_start from w a rest h e =
 
 module _ {from w rest : ℕ} {a b : Writer} (t : WordPut from w a rest b) where
   module _ {position others : ℕ} (n : Next rest position others) where
-    pub bit_small : position < marks_per_word
-    bit_small = lowest_inside rest position marks_per_word n.some n.first (λ k. digit_below marks_per_word rest k t.small)
-
     abbrev left : List ℕ
     left = positions_text (positions_below marks_per_word from others)
 
     bit_text : positions_text (positions_below marks_per_word from rest) ≡ (decimal (from + position) ++ (space ∷ [])) ++ left
-    bit_text =
-        rw (n.first, n.rest)
-        (ap positions_text (positions_next marks_per_word from rest n.some (λ k. digit_below marks_per_word rest k t.small))
-        ∙ first_position (from + lowest rest) (positions_below marks_per_word from (without_lowest rest)))
+    bit_text = ap positions_text (next_position t.small n from) ∙ first_position (from + position) (positions_below marks_per_word from others)
 
-    module _ (h : HasRoom a (positions_text (word_positions from w))) where
-      bit_room : HasRoom b (decimal (from + position) ++ (space ∷ []))
-      bit_room = begun_fits t.begun left bit_text h
+    bit_room : HasRoom b (decimal (from + position) ++ (space ∷ []))
+    bit_room = begun_fits t.begun left bit_text
 
-      pub number_fits : HasRoom b (decimal (from + position))
-      number_fits = first_fits (space ∷ []) refl bit_room
+    pub number_fits : HasRoom b (decimal (from + position))
+    number_fits = first_fits (space ∷ []) refl bit_room
 
-      pub space_fits : {c : Writer} → Wrote b (decimal (from + position)) c → HasRoom c (space ∷ [])
-      space_fits q = behind_fits refl bit_room q
+    pub space_fits : {c : Writer} → Wrote b (decimal (from + position)) c → HasRoom c (space ∷ [])
+    space_fits q = behind_fits refl bit_room q
 
     pub bit_turn : {c d : Writer} → Wrote b (decimal (from + position)) c → Wrote c (space ∷ []) d → WordPut from w a others d
     bit_turn p q =
         record {
-          small = rw n.rest (omega (arith, rest_less rest n.some, t.small));
+          small = others_small t.small n;
           begun = begun_turn t.begun left bit_text (then_wrote p q);
         }
 
@@ -105,8 +96,8 @@ module _ {marks : List ℕ} {a b : Writer} {i : ℕ} (t : MarksPut marks a i b) 
         (ap positions_text (marked_next marks i h)
         ∙ append_positions (word_positions (marks_per_word * i) (get_or marks i 0)) (marked_from marks (i + 1)))
 
-    pub word_fits : HasRoom a (positions_text (positions_in (length marks) marks)) → HasRoom b (positions_text (word_positions (marks_per_word * i) w))
-    word_fits room = begun_fits t.begun behind word_text room
+    pub word_fits : HasRoom b (positions_text (word_positions (marks_per_word * i) w))
+    word_fits = begun_fits t.begun behind word_text
 
     pub word_turn : {c : Writer} → Wrote b (positions_text (word_positions (marks_per_word * i) w)) c → MarksPut marks a (i + 1) c
     word_turn q = record { begun = begun_turn t.begun behind word_text q }

@@ -1,4 +1,4 @@
--- The rows of a flat list of words: one more, and each as a part of the words. Assumes nothing.
+-- The rows of a flat list of words: one more, and that each stands within the words. Assumes nothing.
 use mathlib.Core.Path.{◌≡◌, sym, ◌∙◌, ap₂}
 use mathlib.Core.List.{List, [], ◌∷◌, ◌++◌}
 use Prim.Native.Nat.{ℕ, suc, ◌+◌, ◌*◌, ◌<◌, ◌≤◌}

@@ -1,4 +1,4 @@
--- Laws of filled cells and patterns: a pattern's bound, its next bit, that its ones are the filled cells, and the walk that counts. Assumes nothing.
+-- Laws of filled cells and patterns: a pattern's bound, its next bit, that its ones are the filled cells, and their count as a sum. Assumes nothing.
 use mathlib.Core.Path.{◌≡◌, refl, sym, ◌∙◌, ap, ap₂, subst}
 use mathlib.Core.Bool.{cond}
 use mathlib.Core.List.{List, [], ◌∷◌, map, map-append}

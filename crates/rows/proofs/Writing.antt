@@ -13,6 +13,7 @@ use Rattle.lists.proofs.Flat.{row_fits}
 use Rattle.lists.proofs.Pastes.{Pasted, pasted_more}
 use Rattle.rows.specs.Indices.{row_at, rows_at, Below, Fit}
 use Rattle.std.proofs.lemmas.List.Elements.{All-from_recursion}
+use Rattle.std.proofs.lemmas.List.Edits.{paste_all}
 use Rattle.rows.proofs.Indices.{below_fit}
 
 -- the rows at indices that fit are all c words long
@@ -69,9 +70,7 @@ module _ (d w o : List ℕ) (at c : ℕ) (fit : Fit c (length w) o) where
   pub words_stand : at ≤ length d → take size (drop at (paste d at row_words size)) ≡ row_words
   words_stand room =
       let rest = drop (at + size) d in
-      ap (λ (s : List ℕ). take size (drop at s))
-      (append_assoc (take at d) (take size row_words) rest
-      ∙ ap (λ (s : List ℕ). take at d ++ (s ++ rest)) (take_all size row_words (omega (arith, row_words_length))))
+      ap (λ (s : List ℕ). take size (drop at s)) (paste_all d at row_words size (sym row_words_length))
       ∙ ap (take size) (drop_at (take at d) (row_words ++ rest) at (length-take-le at d room))
       ∙ ap (λ (k : ℕ). take k (row_words ++ rest)) (sym row_words_length)
       ∙ take-append_seam row_words rest

@@ -13,7 +13,6 @@ use Rattle.definitions.specs.Lists.{tabulate}
 use Rattle.definitions.specs.Reading.{marks_in, set_in, positions_of, positions_in}
 use Rattle.definitions.proofs.Positions.{positions_count}
 use Rattle.definitions.proofs.Reading.{marks_count}
-use Rattle.bitsets.specs.Bits.{lowest, without_lowest}
 use Rattle.bitsets.specs.Members.{Next}
 use Rattle.bitsets.proofs.Bits.{digit_below, lowest_inside, rest_less}
 use Rattle.bitsets.proofs.Positions.{positions_below, positions_none, positions_next, positions_ones}
@@ -33,6 +32,17 @@ word_positions_lem from w = ap (positions_of from) (word_bits_lem w)
 word_count : (from w : ℕ) → length (word_positions from w) ≡ ones (w % 2 ^ marks_per_word)
 word_count from w = ap length (word_positions_lem from w) ∙ positions_ones marks_per_word from (w % 2 ^ marks_per_word) (omega arith)
 
+-- a step of the walk over the bits that are left: the lowest has the next position
+module _ {rest position others : ℕ} (small : rest < 2 ^ marks_per_word) (n : Next rest position others) where
+  pub bit_small : position < marks_per_word
+  bit_small = lowest_inside rest position marks_per_word n.some n.first (λ k. digit_below marks_per_word rest k small)
+
+  pub others_small : others < 2 ^ marks_per_word
+  others_small = rw n.rest (omega (arith, rest_less rest n.some, small))
+
+  pub next_position : (from : ℕ) → positions_below marks_per_word from rest ≡ (from + position) ∷ positions_below marks_per_word from others
+  next_position from = rw (n.first, n.rest) (positions_next marks_per_word from rest n.some (λ k. digit_below marks_per_word rest k small))
+
 -- the positions of a word are written but for those of the bits that are left
 pub record WordWritten (from w : ℕ) (b : List ℕ) (rest : ℕ) (m : List ℕ) (mid : ℕ) : Type 0 where
   pub small : rest < 2 ^ marks_per_word
@@ -48,22 +58,18 @@ word_start from w b rest h e =
 
 module _ {from w : ℕ} {b m : List ℕ} {rest mid : ℕ} (t : WordWritten from w b rest m mid) where
   module _ {position others : ℕ} (n : Next rest position others) where
-    next_bit : Writing b 0 (word_positions from w) (((from + lowest rest) ∷ []) ++ positions_below marks_per_word from (without_lowest rest)) m mid
-    next_bit = rest_as (positions_next marks_per_word from rest n.some (λ k. digit_below marks_per_word rest k t.small)) t.writing
-
-    pub bit_small : position < marks_per_word
-    bit_small = lowest_inside rest position marks_per_word n.some n.first (λ k. digit_below marks_per_word rest k t.small)
+    next_bit : Writing b 0 (word_positions from w) (((from + position) ∷ []) ++ positions_below marks_per_word from others) m mid
+    next_bit = rest_as (next_position t.small n from) t.writing
 
     pub bit_fits : mid < length m
-    bit_fits = omega (arith, fits_next ((from + lowest rest) ∷ []) (positions_below marks_per_word from (without_lowest rest)) next_bit)
+    bit_fits = omega (arith, fits_next ((from + position) ∷ []) (positions_below marks_per_word from others) next_bit)
 
     pub bit_turn : WordWritten from w b others (set m mid (from + position)) (mid + 1)
     bit_turn =
-        rw (n.first, n.rest)
-        (record {
-          small = omega (arith, rest_less rest n.some, t.small);
-          writing = turns (positions_below marks_per_word from (without_lowest rest)) next_bit (one_written m mid (from + lowest rest) bit_fits);
-        })
+        record {
+          small = others_small t.small n;
+          writing = turns (positions_below marks_per_word from others) next_bit (one_written m mid (from + position) bit_fits);
+        }
 
   -- as many as the low bits have ones
   pub word_end : {marks : ℕ} → rest ≡ 0 → marks ≡ w % 2 ^ marks_per_word → Written b 0 (word_positions from w) m (ones marks)

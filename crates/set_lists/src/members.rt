@@ -1,7 +1,6 @@
 // The members of sets as positions: how many words they take, and their writing. Each part is written from the front of the words that are
 // left, and tells how many it wrote: a writer that only goes on would have to count the members first, a further walk for each record.
 ghost use Rattle.std.specs.Prelude.{◌≡◌, map, ◌^◌, ◌≤◌, ◌<◌, length};
-ghost use mathlib.Core.List.{flatten};
 ghost use Rattle.definitions.specs.Limits.{max_sets, mark_words};
 ghost use Rattle.definitions.specs.Reading.{positions_in};
 ghost use Rattle.definitions.specs.ReadBack.{read_record};

@@ -25,8 +25,7 @@ pub struct Pair<'a> {
 
 impl Pair<'_> {
     // Writes the rows of both images, widened to the columns of both, one after the other over empty cells, which are those of a new table or
-    // of a list made for them; how many they are. A call for
-    // each image, in no loop: where the second's rows go is told by the first's.
+    // of a list made for them; how many they are. A call for each image, in no loop: where the second's rows go is told by the first's.
     pub fn widen_both(&self, cells: &mut [u32; Table::MAX_CELLS]) -> usize
         requires { (k : ℕ) → get_or cells.old k 0 ≡ 0 }
         ensures { CellsOf (both_rows self.now.first.words.now self.now.second.words.now) (length self.now.ids.now)

@@ -23,7 +23,7 @@ use Rattle.definitions.specs.Promise.{ComplementPromise}
 use Rattle.definitions.proofs.Counts.{set_list-length}
 use Rattle.definitions.proofs.Promise.{complement_promised}
 use Rattle.images.specs.Writing.{chosen, Writable, WrittenImage}
-use Rattle.images.proofs.Rows.{image_words, image_values, image_over}
+use Rattle.images.proofs.Rows.{image_words, image_values}
 use Rattle.fusing.specs.declared.union_rows.UnionRows.{UnionRows}
 use Rattle.fusing.specs.Fused.{FusedOf}
 use Rattle.fusing.specs.UnionRows.{rows_of}
@@ -121,7 +121,7 @@ module _ {t : UnionRows} {list : List ℕ} (joins : Rows) {order positions : Lis
           ∙ ap₂ (λ (l : List (List ℕ)) (x : List ℕ). length l ∷ length x ∷ filled (flatten l) ∷ length list ∷ words_of_sets ∷ []) fused named
           ∙ ap₂ (λ (x y : ℕ). length (fused_rows words T) ∷ length image ∷ filled (flatten (fused_rows words T)) ∷ x ∷ y ∷ []) (sym counted) list_words_lem)
           ∙ ap (λ (x : Result ⊤ Refusal). or_refused x (done values)) (sym e) ∙ outcome;
-      writes = image_over fused_writable table table_after k i ∙ ap (λ (x : List ℕ). x ++ drop (length x) table) named;
+      writes = i.words ∙ ap (λ (x : List ℕ). x ++ drop (length x) table) named;
       lists = list_written words T list positions sets sets_after (length list) counted w.sets.listed f.placed s;
     }
 

@@ -1,7 +1,6 @@
 // The questions from 9 on that complement union puts to T, and what they leave to write: the fused table and the set list.
-ghost use Rattle.std.specs.Prelude.{◌≡◌, ◌*◌, ◌≤◌, length, take};
+ghost use Rattle.std.specs.Prelude.{◌≡◌, ◌*◌, ◌≤◌, length};
 ghost use Rattle.definitions.specs.Limits.{max_columns, max_sets};
-ghost use Rattle.definitions.specs.Image.{rows_in};
 ghost use Rattle.definitions.specs.Answer.{complement_says};
 ghost use Rattle.fusing.specs.Fused.{FusedOf};
 ghost use Rattle.fusing.specs.UnionRows.{rows_of};

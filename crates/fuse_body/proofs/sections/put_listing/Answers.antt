@@ -30,7 +30,7 @@ table_lines-requires c =
     let words = c.requires.fused_words in
     let rest = behind_fits refl (behind_fits (listing_parts _ _) c.requires.room c.put_union.ensures) c.put_minimum.ensures in
     let text = sets_as _ _ words.list_within _ c.as_chunks.ensures.front words.list_text in
-    room_as (sym (table_as _ c.image_rows-rows.ensures.first words.table_text)) (behind_fits refl rest (wrote_as text c.sets_lines.ensures))
+    room_as (sym (table_as _ c.first_rows-rows.ensures.first words.table_text)) (behind_fits refl rest (wrote_as text c.sets_lines.ensures))
 
 pub returns : goal.returns
 returns c =
@@ -39,4 +39,4 @@ returns c =
     wrote_as (sym (listing_parts _ _))
     (then_wrote c.put_union.ensures (then_wrote c.put_minimum.ensures
     (then_wrote (wrote_as text c.sets_lines.ensures)
-    (wrote_as (table_as _ c.image_rows-rows.ensures.first words.table_text) c.table_lines.ensures))))
+    (wrote_as (table_as _ c.first_rows-rows.ensures.first words.table_text) c.table_lines.ensures))))

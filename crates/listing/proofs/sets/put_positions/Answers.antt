@@ -9,7 +9,7 @@ loop-i-init c = marks_start _ _ c.requires.room
 pub put_word-requires : goal.put_word-requires
 put_word-requires c =
     record {
-      room = word_fits c.loop-i.invariant (omega arith) _ refl c.requires.room;
+      room = word_fits c.loop-i.invariant (omega arith) _ refl;
       from = omega (arith, c.requires.few);
     }
 

@@ -7,10 +7,10 @@ pub loop-count-init : goal.loop-count-init
 loop-count-init c = rw (c.into_iter-count-iterator.ensures.into_iter_gives, c.enumerate-count-items.ensures.source, c.enumerate-count-items.ensures.count, c.of.ensures) (word_start _ _ _ _ (omega arith) c.low_bits-marks.ensures)
 
 pub overflow_cast-out : goal.overflow_cast-out
-overflow_cast-out c = omega (arith, bit_small c.loop-count.invariant c.in-Some.ensures.steps.0)
+overflow_cast-out c = omega (arith, bit_small c.loop-count.invariant.small c.in-Some.ensures.steps.0)
 
 pub overflow_add-out : goal.overflow_add-out
-overflow_add-out c = omega (arith, bit_small c.loop-count.invariant c.in-Some.ensures.steps.0)
+overflow_add-out c = omega (arith, bit_small c.loop-count.invariant.small c.in-Some.ensures.steps.0)
 
 pub bounds-out-count : goal.bounds-out-count
 bounds-out-count c = omega (arith, bit_fits c.loop-count.invariant c.in-Some.ensures.steps.0, c.in-Some.ensures.steps.1)

@@ -1,10 +1,7 @@
--- The header is there, and says that the rows are few.
+-- The header says that the rows are few.
 use native.Mathlib.Omega.{arith}
 use Rattle.definitions.proofs.Questions.{passed_is}
 use Rattle.images.proofs.image.Image.rows.Goals as goal
-
-pub bounds-self-0 : goal.bounds-self-0
-bounds-self-0 g c = ((passed_is _ c.args.self.words.now).0 c.args.self.accepted).first_word
 
 pub returns-clause-few : goal.returns-clause-few
 returns-clause-few g c =
