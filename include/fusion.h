@@ -6,8 +6,8 @@
  *   header    0xC0000000 | rows << 18 | columns
  *   columns   0x80000000 | id, one word a column; ids 0 to 65535, distinct
  *             whatever their marks; with | FUSION_MARK the column is marked
- *   cells     row by row: 0 for an empty cell, 0x40000000 | number for a filled
- *             one; numbers 0 to 1073741823
+ *   cells     row by row: 0 for an empty cell ("not known"), 0x40000000 |
+ *             number, numbers 0 to 1073741823, or FUSION_NONE ("there is none")
  * A source table has 1 to 16 columns and 0 to 32 rows. Its image has exactly
  * 1 + columns + rows * columns words. Results are images too, with at most 16
  * columns and, for complement union, at most 1024 rows. A column of a result is
@@ -63,6 +63,10 @@ extern "C" {
 /* The mark of a column word, bit 29: the column identifies. */
 #define FUSION_MARK 0x20000000u
 
+/* The cell that says: there is none. It is filled, equals only itself, and
+ * sorts after every number. */
+#define FUSION_NONE 0x80000000u
+
 /* Table words that are enough for every outer and every minimum union. */
 #define FUSION_UNION_WORDS (1 + 16 + 64 * 16)
 
@@ -91,7 +95,7 @@ enum fusion_number {
     FUSION_BAD_LENGTH = 4,     /* not 1 + columns + rows * columns words */
     FUSION_BAD_COLUMN = 5,     /* a column word is not of column form */
     FUSION_SAME_ID = 6,        /* two columns have the same id */
-    FUSION_BAD_CELL = 7,       /* a cell is neither empty nor filled */
+    FUSION_BAD_CELL = 7,       /* a cell is not empty, a number or FUSION_NONE */
     FUSION_UNION_COLUMNS = 8,  /* the union has more than 16 columns */
     FUSION_TOO_MANY_SETS = 9,  /* more than 1024 maximal sets */
     FUSION_TABLE_TOO_SHORT = 10, /* of the reader: words is too short */
@@ -140,8 +144,8 @@ uint32_t fusion_minimum_union(const uint32_t *first, size_t first_len,
  * smallest position that only one of them holds comes first.
  *
  * If any column of the union is marked, even one that is empty in every row,
- * rows complement each other only if they share a number in a marked column;
- * if none is, a number shared in any column will do.
+ * rows complement each other only if they share a number or FUSION_NONE in a
+ * marked column; if no column is marked, one shared in any column will do.
  *
  * Refusals: 1 to 11.
  */
@@ -182,8 +186,9 @@ uint32_t fusion_read_set_list(const uint32_t *list, size_t list_len,
  *   lines 2 to 60   a row each: its position, then its cells in these columns
  * Characters 1 to 4 of a line hold the position and are blank in line 1; then
  * each id or cell has 12 characters. All are decimal and flushed right; an
- * empty cell is shown as `-`, marks are not shown. The rest of a line and lines
- * without a row are blank. A position is a row's place in the image, from 0.
+ * empty cell is shown as `-`, FUSION_NONE as `none`, marks are not shown. The
+ * rest of a line and lines without a row are blank. A position is a row's place
+ * in the image, from 0.
  *
  * Columns and rows keep the image's order. Columns go in bands of six: the
  * pages of the first six show all rows, 59 a page, then those of the next six

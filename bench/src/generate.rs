@@ -11,6 +11,12 @@ const IDS: u32 = 0xFFFF;
 /// The mark of a column word.
 pub const MARK: u32 = 1 << 29;
 
+/// The cell of what is known to be none (request A4).
+pub const NONE: u32 = 2 << 30;
+
+/// Words beside it that no cell may be.
+const NOT_NONE: [u32; 4] = [NONE | 1, NONE | 1 << 16, NONE | 1 << 29, 3 << 30];
+
 /// Row counts that no source table has, the first one over the limit.
 const OVER: [u32; 9] = [33, 33, 34, 63, 64, 65, 1024, 2048, 4095];
 
@@ -102,7 +108,7 @@ impl Table {
     }
 }
 
-/// A filled cell.
+/// The cell of a number.
 pub fn cell(number: u32) -> u32 {
     FILLED | number
 }
@@ -145,6 +151,60 @@ pub fn unmarked(pair: &Pair) -> Pair {
         }
     }
     pair
+}
+
+/// The cells of a well-formed image, each with the id of its column.
+fn cells(image: &mut [u32]) -> impl Iterator<Item = (&mut u32, u32)> {
+    let columns = (image[0] & 31) as usize;
+    let (heads, cells) = image[1..].split_at_mut(columns);
+    let ids = heads.iter().map(|head| head & IDS);
+    cells.iter_mut().zip(ids.cycle())
+}
+
+/// Whether a well-formed image has a cell that is none.
+pub fn has_none(image: &[u32]) -> bool {
+    image[1 + (image[0] & 31) as usize..].contains(&NONE)
+}
+
+/// A pair of well-formed images with this word in place of none.
+pub fn without_none(pair: &Pair, word: u32) -> Pair {
+    let mut pair = pair.clone();
+    for image in [&mut pair.first, &mut pair.second] {
+        let nones = cells(image).filter(|(cell, _)| **cell == NONE);
+        nones.for_each(|(cell, _)| *cell = word);
+    }
+    pair
+}
+
+/// Makes cells of well-formed images none, if any is filled. Unless `freely`,
+/// none takes the place of a number in a whole column, or in all, of every
+/// image: rows that were equal, or complemented, or subsumed, still do.
+pub(crate) fn put_none(rng: &mut Rng, images: &mut [&mut [u32]], freely: bool) {
+    let mut filled = Vec::new();
+    for image in images.iter_mut() {
+        let list = cells(image).map(|(cell, id)| (*cell, id));
+        filled.extend(list.filter(|&(cell, _)| cell != 0));
+    }
+    if filled.is_empty() {
+        return;
+    }
+    let (word, column) = *rng.pick(&filled);
+    let style = rng.below(if freely { 8 } else { 3 });
+    let part = *rng.pick(&[1, 2, 4, 7]);
+    for image in images {
+        for (cell, id) in cells(image) {
+            let taken = match style {
+                0 | 1 => *cell == word,
+                2 => *cell == word && id == column,
+                3 | 4 => *cell == word && rng.chance(part, 8),
+                // Any cell, be it empty.
+                _ => rng.chance(part, 8),
+            };
+            if taken {
+                *cell = NONE;
+            }
+        }
+    }
 }
 
 /// Marks the column with this id, if the image has it.
@@ -751,9 +811,11 @@ fn sound(rng: &mut Rng) -> Pair {
     made
 }
 
-/// A pair without marks that passes questions 1 to 7.
+/// A pair without marks that passes questions 1 to 7, in a third of the cases
+/// with cells that are none.
 fn plain(rng: &mut Rng) -> Pair {
-    match rng.below(33) {
+    let choice = rng.below(33);
+    let mut made = match choice {
         0..=9 => pair("small", small(rng)),
         10..=13 => pair("any size", any_size(rng)),
         14..=20 => pair("parts", parts(rng)),
@@ -771,7 +833,13 @@ fn plain(rng: &mut Rng) -> Pair {
         }
         30 => pair("groups and rows beside", beside(rng)),
         _ => pair("wide", wide(rng)),
+    };
+    if rng.chance(1, 3) {
+        // Where sets are counted beforehand, their number stays.
+        let freely = !matches!(choice, 24..=26 | 29 | 30);
+        put_none(rng, &mut [&mut made.first, &mut made.second], freely);
     }
+    made
 }
 
 /// Makes the image fail the question with the given number (1 to 7), if it
@@ -851,10 +919,11 @@ pub(crate) fn damage(rng: &mut Rng, image: &mut Vec<u32>, number: usize, over: &
                     2 => 1 << rng.below(30),
                     _ => rng.word() & NUMBERS,
                 };
-                image[place] = match rng.below(3) {
+                image[place] = match rng.below(4) {
                     0 => low.max(1),
-                    1 => 2 << 30 | low,
-                    _ => 3 << 30 | low,
+                    1 => NONE | low.max(1),
+                    2 => 3 << 30 | low,
+                    _ => *rng.pick(&NOT_NONE),
                 };
             }
         }

@@ -12,7 +12,7 @@ use std::collections::{BTreeMap, BTreeSet};
 /// Largest T for which every subset is looked at.
 pub const SUBSET_ROWS: usize = 12;
 
-/// A row: a word for each column, 0 for empty.
+/// A row: a word for each column, 0 for empty. Every other word is filled.
 type Row = Vec<u32>;
 
 /// A column: its id and whether it is marked.
@@ -62,6 +62,8 @@ fn read(image: &[u32], most_rows: usize) -> Result<Table, u32> {
         match kind(word) {
             0 if word == 0 => {}
             1 => {}
+            // Known to be none (request A4).
+            2 if zero_bits(word, 0, 29) => {}
             _ => return Err(7),
         }
     }
@@ -471,9 +473,10 @@ fn line(position: &str, cells: &[String]) -> String {
 
 /// Every page of a table.
 fn pages(table: &Table) -> Vec<String> {
-    let shown = |word: u32| match word {
+    let shown = |word: u32| match word / (1 << 30) {
         0 => "-".to_string(),
-        _ => (word % (1 << 30)).to_string(),
+        1 => (word % (1 << 30)).to_string(),
+        _ => "none".to_string(),
     };
     let mut pages = Vec::new();
     let mut left = 0;

@@ -4,7 +4,7 @@
 //! Method: the lines start as blank ones. Then the digits are put over the
 //! blanks from the last on, two at a time.
 
-use crate::generate::{cell, Table};
+use crate::generate::{cell, Table, NONE};
 use crate::reference::{check, Reference};
 use crate::{Answer, Pager, LINE_BYTES, MAX_STORED_ROWS, PAGE_BYTES, PAGE_LINES};
 
@@ -93,10 +93,11 @@ pub fn write_page(image: &[u32], page: u32, bytes: &mut [u8]) -> Answer {
     for (line, (position, row)) in lines.chunks_exact_mut(LINE_BYTES).zip(shown) {
         put_number(line, POSITION, position as u32);
         for (place, &word) in row[left..right].iter().enumerate() {
-            if word == 0 {
-                line[end_of(place) - 1] = b'-';
-            } else {
-                put_number(line, end_of(place), word & 0x3FFF_FFFF);
+            let end = end_of(place);
+            match word {
+                0 => line[end - 1] = b'-',
+                NONE => line[end - 4..end].copy_from_slice(b"none"),
+                _ => put_number(line, end, word & 0x3FFF_FFFF),
             }
         }
     }
@@ -188,7 +189,11 @@ pub fn read_back(pages: &[Vec<u8>]) -> Option<Table> {
             }
             let row = table.rows.get_mut(rows)?;
             for text in cells {
-                row.push(if text == "-" { 0 } else { cell(number(text)?) });
+                row.push(match text.as_str() {
+                    "-" => 0,
+                    "none" => NONE,
+                    _ => cell(number(text)?),
+                });
             }
             rows += 1;
         }

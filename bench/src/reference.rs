@@ -7,14 +7,14 @@
 //!   column in the upper half, so that comparing rows is comparing arrays.
 //!   Row indices are sorted, not rows.
 //! - Relations between rows are found a column at a time, as 64-bit sets of
-//!   positions: the rows of T with the same number in a column form a group,
-//!   and a row's relations are intersections and unions of groups. Of shared
-//!   numbers, the groups of the columns that count are taken: the marked ones,
+//!   positions: the rows of T with the same value in a column form a group, and
+//!   a row's relations are intersections and unions of groups. Of shared
+//!   values, the groups of the columns that count are taken: the marked ones,
 //!   or all where none is marked.
 //! - The maximal sets come from Bron and Kerbosch's search with a pivot, which
 //!   stops at the 1,025th set, and are then sorted into set order.
 //! - For joining, each cell is coded in 7 bits (0 empty, otherwise the rank of
-//!   its number in the column). A joined row is then the bitwise or of its
+//!   its value in the column). A joined row is then the bitwise or of its
 //!   members' 112-bit codes, and codes are ordered as rows are.
 //! - A set list is read with a set as one 64-bit word: one pass over the
 //!   records for all checks and the number of words, one that writes.
@@ -24,11 +24,12 @@ use core::cmp::{Ordering, Reverse};
 
 /// Cell pairs in a padded row.
 const PAIRS: usize = MAX_COLUMNS / 2;
-/// Bits of a cell code: 0 for empty, 1 to 64 for the numbers of a column.
+/// Bits of a cell code: 0 for empty, 1 to 64 for the numbers of a column and
+/// none behind them.
 const CODE_BITS: usize = 7;
 /// Bits of a set's index, below the row code in the sort of joined rows.
 const INDEX_BITS: u32 = 10;
-/// Slots of the table in which equal numbers of a column are found.
+/// Slots of the table in which equal values of a column are found.
 const SLOTS: usize = 128;
 
 const HEADER: u32 = 3 << 30;
@@ -310,7 +311,7 @@ impl Reference {
     /// The complementing rows of each row of T, and the rows' codes.
     fn relate(&mut self) {
         let count = self.count;
-        // Rows that agree wherever both are filled; that share a number in a
+        // Rows that agree wherever both are filled; that share a value in a
         // column that counts; that hold all filled cells; that are empty
         // wherever the row is.
         let mut agree = [!0u64; MAX_ROWS];
@@ -657,9 +658,10 @@ pub(crate) fn check(image: &[u32], most_rows: usize) -> Result<Source<'_>, u32> 
     if sorted.windows(2).any(|pair| pair[0] >> 5 == pair[1] >> 5) {
         return Err(6);
     }
-    // Kind 1 are the words from 2^30 to 2^31 - 1.
+    // Kind 1 are the words from 2^30 to 2^31 - 1, and the next one is none
+    // (request A4).
     let wrong = cells.iter().fold(false, |wrong, &word| {
-        wrong | (word != 0 && word.wrapping_sub(FILLED) >= FILLED)
+        wrong | (word != 0 && word.wrapping_sub(FILLED) > FILLED)
     });
     if wrong {
         return Err(7);

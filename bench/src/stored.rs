@@ -1,7 +1,8 @@
 //! Seeded generator of pages that are asked for: images of stored tables,
 //! sound or damaged, page numbers and lengths of the lent bytes.
 
-use crate::generate::{cell, damage, damages, distinct_ids, garbage, mark_some, Rng, Table};
+use crate::generate::{cell, damage, damages, distinct_ids, garbage, mark_some, put_none};
+use crate::generate::{Rng, Table};
 use crate::pages;
 use crate::{MAX_COLUMNS, MAX_STORED_ROWS, PAGE_BYTES};
 
@@ -93,7 +94,8 @@ fn any_size(rng: &mut Rng) -> (usize, usize) {
     (columns, rows)
 }
 
-/// The image of a table that is accepted, in half of the cases with marks.
+/// The image of a table that is accepted, in half of the cases with marks and
+/// in a third with cells that are none.
 pub fn sound(rng: &mut Rng) -> Vec<u32> {
     let size = any_size(rng);
     let part = *rng.pick(&[0, 1, 4, 7, 8]);
@@ -103,6 +105,9 @@ pub fn sound(rng: &mut Rng) -> Vec<u32> {
         _ => table(rng, size, part, |rng| any_number(rng, NUMBERS)),
     };
     let mut image = made.image();
+    if rng.chance(1, 3) {
+        put_none(rng, &mut [&mut image], true);
+    }
     if rng.chance(1, 2) {
         let part = *rng.pick(&[1, 4, 8]);
         mark_some(rng, &mut image, part);

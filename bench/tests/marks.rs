@@ -2,64 +2,8 @@
 
 mod common;
 
-use common::{column, image, marked, FILL};
-#[cfg(feature = "product")]
-use fusion_bench::ffi::Product;
-use fusion_bench::naive::Naive;
-use fusion_bench::reference::Reference;
-use fusion_bench::{Call, Unions, ANSWER_WORDS, MAX_SET_WORDS, MAX_TABLE_WORDS};
-
-fn implementations() -> Vec<Box<dyn Unions>> {
-    vec![
-        Box::new(Reference::new()),
-        Box::new(Naive::default()),
-        #[cfg(feature = "product")]
-        Box::new(Product),
-    ]
-}
-
-/// A call by every implementation: answer, table words, set words.
-type Result = ([u32; ANSWER_WORDS], Vec<u32>, Vec<u32>);
-
-fn run(call: Call, first: &[u32], second: &[u32]) -> Result {
-    let mut results = Vec::new();
-    for mut unions in implementations() {
-        let mut table = vec![FILL; MAX_TABLE_WORDS + 1];
-        let mut sets = vec![FILL; MAX_SET_WORDS + 1];
-        let mut answer = [FILL; ANSWER_WORDS];
-        unions.run(call, first, second, &mut table, &mut sets, &mut answer);
-        let (words, set_words) = (answer[3] as usize, answer[7] as usize);
-        assert!(table[words..].iter().all(|&word| word == FILL));
-        assert!(sets[set_words..].iter().all(|&word| word == FILL));
-        table.truncate(words);
-        sets.truncate(set_words);
-        results.push((answer, table, sets));
-    }
-    for result in &results[1..] {
-        assert_eq!(result, &results[0]);
-    }
-    results.swap_remove(0)
-}
-
-/// The sets of a set list, as positions.
-fn positions(list: &[u32]) -> Vec<Vec<usize>> {
-    list[1..]
-        .chunks_exact(4)
-        .map(|record| {
-            (0..90)
-                .filter(|i| record[i / 30] >> (i % 30) & 1 == 1)
-                .collect()
-        })
-        .collect()
-}
-
-/// The numbers of the refusals of the three calls, which have to be the same.
-fn refused(first: &[u32], second: &[u32]) -> (u32, u32) {
-    let answers = Call::ALL.map(|call| run(call, first, second).0);
-    assert!(answers.iter().all(|answer| answer == &answers[0]));
-    assert_eq!(answers[0][2..], [0; ANSWER_WORDS - 2]);
-    (answers[0][0], answers[0][1])
-}
+use common::{column, image, implementations, marked, positions, refused, run, FILL};
+use fusion_bench::Call;
 
 /// Two devices of one guest, and the guest's address.
 const DEVICES: [&[i64]; 2] = [&[7, -1, 2], &[8, -1, 2]];

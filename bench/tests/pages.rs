@@ -338,11 +338,12 @@ fn numbers_1_to_7() {
         }
     }
     for place in [4, 5, 99, 182, 183] {
-        for word in [1, 0x3FFF_FFFF, 0x8000_0000, 0xC000_0000, !0] {
+        for word in [1, 0x3FFF_FFFF, 0x8000_0001, 0xBFFF_FFFF, 0xC000_0000, !0] {
             refused(&with(place, word), 7);
         }
-        assert!(page(&with(place, 0), 0).is_ok());
-        assert!(page(&with(place, 0x7FFF_FFFF), 1).is_ok());
+        for word in [0, 0x4000_0000, 0x7FFF_FFFF, 0x8000_0000] {
+            assert!(page(&with(place, word), 1).is_ok());
+        }
     }
 }
 

@@ -59,6 +59,8 @@ int main(void)
                 putchar(' ');
             if (*cell == EMPTY)
                 putchar('-');
+            else if (*cell == FUSION_NONE)
+                fputs("none", stdout);
             else
                 printf("%u", (unsigned)(*cell & 0x3FFFFFFFu));
         }

@@ -4,8 +4,8 @@
 //! product (feature `product`) and, on a part of the inputs, with the brute
 //! force implementation, and compares the answers and every word of every
 //! buffer, the words around the lent buffers too. Marks are put on half of
-//! the pairs. For accepted pairs it also runs complement union on another pair
-//! with the same union columns, marks and T.
+//! the pairs, and none into cells of a third. For accepted pairs it also runs
+//! complement union on another pair with the same union columns, marks and T.
 //! Each case also reads a generated set list, sound in half of the cases, and
 //! the list that complement union made, if it was done: this has to give the
 //! sets, and what is read of any accepted list, written again by document 01's
@@ -19,7 +19,9 @@
 //! of calls by outcome; "7/1" is refusal number 7 for table 1. It also tells how
 //! many accepted pairs had a marked union, how many of these would have other
 //! sets without their marks, and in how many of those some rows still
-//! complement.
+//! complement; how many had a union with none in it, how many of these would
+//! have another number of sets with empty cells or with number 0 in its place;
+//! and how many pages show none.
 
 #[cfg(feature = "product")]
 use fusion_bench::ffi::Product;
@@ -179,12 +181,18 @@ struct Differential {
     marked: u64,
     marks_matter: u64,
     marked_joins: u64,
+    /// Accepted pairs with none in their union; of these the ones with another
+    /// number of sets if it were empty, and if it were number 0.
+    none: u64,
+    none_not_empty: u64,
+    none_not_zero: u64,
     /// Buffer for finding out how many words a list takes.
     words: Vec<u32>,
     read_outcomes: BTreeMap<u32, u64>,
     made_lists: u64,
     most_words: u32,
     page_outcomes: BTreeMap<u32, u64>,
+    none_pages: u64,
     made_tables: u64,
     most_pages: u32,
     whole_tables: u64,
@@ -352,11 +360,15 @@ impl Differential {
             marked: 0,
             marks_matter: 0,
             marked_joins: 0,
+            none: 0,
+            none_not_empty: 0,
+            none_not_zero: 0,
             words: vec![0; MAX_READ_WORDS],
             read_outcomes: BTreeMap::new(),
             made_lists: 0,
             most_words: 0,
             page_outcomes: BTreeMap::new(),
+            none_pages: 0,
             made_tables: 0,
             most_pages: 0,
             whole_tables: 0,
@@ -393,6 +405,20 @@ impl Differential {
         self.marked += 1;
         self.marks_matter += u64::from(matter);
         self.marked_joins += u64::from(matter && joins);
+    }
+
+    /// Counts an accepted pair with none in its union.
+    fn count_none(&mut self, pair: &Pair) {
+        let mut count = |pair: &Pair| {
+            let answer = self.full_answer(Call::Complement, pair);
+            (answer.number, answer.sets)
+        };
+        let counted = count(pair);
+        let [empty, zero] =
+            [0, generate::cell(0)].map(|word| count(&generate::without_none(pair, word)));
+        self.none += 1;
+        self.none_not_empty += u64::from(empty != counted);
+        self.none_not_zero += u64::from(zero != counted);
     }
 
     /// Runs one call with all implementations. Returns the state afterwards.
@@ -535,8 +561,12 @@ impl Differential {
         };
         // The brute force writes all pages.
         let check_naive = stored.image.len() < 400 || rng.chance(1, 16);
-        let after = self.compare_page(&input, check_naive);
+        let mut after = self.compare_page(&input, check_naive);
         *self.page_outcomes.entry(after.number).or_insert(0) += 1;
+        if after.number == 0 {
+            let shown = &after.bytes.part()[..PAGE_BYTES];
+            self.none_pages += u64::from(shown.windows(4).any(|text| text == b"none"));
+        }
     }
 
     /// Asks for all pages of a table, and reads it back.
@@ -631,6 +661,9 @@ impl Differential {
             if call == Call::Complement && accepted && generate::is_marked(&union_image) {
                 self.count_marked(&pair);
             }
+            if call == Call::Complement && accepted && generate::has_none(&union_image) {
+                self.count_none(&pair);
+            }
             if call == Call::Complement && accepted && rng.chance(1, 4) {
                 self.twins += 1;
                 let twin = generate::twin(&mut rng, &union_image);
@@ -706,6 +739,10 @@ impl Differential {
             (self.marked, "marked union"),
             (self.marks_matter, "other sets by marks"),
             (self.marked_joins, "rows joined by marks"),
+            (self.none, "union with none"),
+            (self.none_not_empty, "other sets than with empty for none"),
+            (self.none_not_zero, "other sets than with 0 for none"),
+            (self.none_pages, "page with none"),
         ];
         for (count, name) in counts {
             if count == 0 {
@@ -721,8 +758,9 @@ impl Differential {
             "{compared}: {cases} cases, {} calls ({}); {} by brute force, {} pairs with the same T, \
              T up to {} rows, sets up to {}, 1,024 sets {}, subsumed rows {}, shared joined rows {}; \
              marked unions {}, {} with other sets than unmarked, {} of them with rows joined; \
+             unions with none {}, {} with more or fewer sets if it were empty, {} if it were 0; \
              set lists read: {} ({}), up to {} words, {} of complement union; \
-             pages: {} ({}), {} of complement union's tables, \
+             pages: {} ({}), {} with none, {} of complement union's tables, \
              {} tables of up to {} pages read back{}",
             self.calls,
             outcomes.join(", "),
@@ -736,12 +774,16 @@ impl Differential {
             self.marked,
             self.marks_matter,
             self.marked_joins,
+            self.none,
+            self.none_not_empty,
+            self.none_not_zero,
             self.read_outcomes.values().sum::<u64>(),
             read_outcomes,
             self.most_words,
             self.made_lists,
             self.page_outcomes.values().sum::<u64>(),
             page_outcomes,
+            self.none_pages,
             self.made_tables,
             self.whole_tables,
             self.most_pages,

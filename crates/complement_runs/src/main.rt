@@ -3,6 +3,7 @@
 
 mod many;
 mod marks;
+mod none;
 mod paper;
 mod room;
 
@@ -51,5 +52,6 @@ fn main(rt: HostRuntime) -> io::Result<()> {
     cases(&rt, &paper::CASES)?;
     cases(&rt, &room::CASES)?;
     marks::run(&rt)?;
+    cases(&rt, &none::CASES)?;
     many::run(&rt)
 }

@@ -73,7 +73,7 @@ module _ (columns : List ℕ) where
       cells true x y h = h
       cells false x y h = inl refl
 
-  -- some column that counts is filled in both with the same number
+  -- some column that counts is filled in both, with equal cells
   pub share_counted : (s t : List ℕ) → (share (counted_cells columns s) (counted_cells columns t) ≡ true) ↔ SharedCounted columns s t
   share_counted s t = (
     λ e.

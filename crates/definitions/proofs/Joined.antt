@@ -72,7 +72,7 @@ join_empty_is l k = (
 pub filled-agree : (x y : ℕ) → Filled x → Filled y → CellAgrees x y → x ≡ y
 filled-agree x y h k a = ⊎_elim (λ e. e) (λ r. ⊎_elim (λ e. absurd (h e)) (λ e. absurd (k e)) r) a
 
--- where the members agree pairwise, the joined row has each member's numbers
+-- where the members agree pairwise, the joined row has each member's filled cells
 pub join-covers : (l : List (List ℕ)) → ((r t : List ℕ) → Member r l → Member t l → agree r t ≡ true) → (r : List ℕ) → Member r l → covers (join_all l) r ≡ true
 join-covers l f r h =
     covers_of (join_all l) r (λ k.

@@ -43,6 +43,8 @@ pub mod Pages
 pub mod ReadBound
 pub mod TableWords
 pub mod FusedPasses
+pub mod KnownNone
+pub mod CellsKept
 pub mod TextLength
 pub mod Paper
 pub mod Example

@@ -3,12 +3,12 @@ use mathlib.Core.Path.{◌≡◌, refl, sym, ◌∙◌, ap, subst}
 use mathlib.Core.Bool.{true}
 use mathlib.Core.Logic.{◌↔◌, inl, inr}
 use mathlib.Core.List.{List, [], ◌∷◌, ◌++◌, map, flatten, append_assoc}
-use Prim.Native.Nat.{ℕ, zero, suc, ◌+◌, ◌*◌, ◌-◌, ◌/◌, ◌%◌, ◌^◌, ◌≤◌, ◌<◌}
+use Prim.Native.Nat.{ℕ, zero, suc, ◌+◌, ◌*◌, ◌-◌, ◌/◌, ◌%◌, ◌≤◌, ◌<◌}
 use native.Mathlib.Omega.{arith}
-use lib.Dec.{eqb, leb, ltb}
+use lib.Dec.{leb, ltb}
 use lib.ListN.{length, get_or, take, drop, length-append, length-drop, length-map, length-replicate, get_or-append}
 use lib.Seq.{take_at, drop-append-le, drop-append-add, take-append-le, get_or_at}
-use borrow.Author.Tests.{le-leb, leb-true, ltb-true, ltb-false, eqb-true, eqb-false}
+use borrow.Author.Tests.{le-leb, leb-true, ltb-true, ltb-false}
 use Rattle.std.proofs.lemmas.List.{get_or-map}
 use Rattle.definitions.specs.Lists.{all}
 use Rattle.definitions.specs.Statements.{Member}
@@ -20,7 +20,7 @@ use Rattle.definitions.proofs.Bools.{bool_cases}
 use Rattle.definitions.proofs.Lists.{member-get, all_true, all_append, map-member}
 use Rattle.definitions.proofs.Counts.{flatten-length}
 use Rattle.definitions.proofs.Flat.{Wide, flat_row}
-use Rattle.definitions.proofs.Cells.{empty_text, number_text}
+use Rattle.definitions.proofs.Cells.{each_text}
 
 -- ---- characters
 
@@ -57,10 +57,7 @@ decimal_characters n = digits_characters n n
 
 pub cell_characters : (w : ℕ) → Characters (cell_text w)
 unfolding all
-cell_characters w =
-    bool_cases (eqb w 0)
-    (λ e. rw (empty_text w (eqb-true w 0 e)) refl)
-    (λ e. rw (number_text w (eqb-false w 0 e)) (decimal_characters (w % 2 ^ 30)))
+cell_characters = each_text Characters refl refl (λ n h. decimal_characters n)
 
 -- ---- a text flushed right
 

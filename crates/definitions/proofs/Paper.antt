@@ -1,4 +1,4 @@
--- Document 01, "Rows on paper": P1 to P9, and five cases of request A2, as the rows of one joint check of the definitions.
+-- Document 01, "Rows on paper": P1 to P9, seven cases of request A2 and seven of request A4, as the rows of one joint check of the definitions.
 -- Assumes nothing.
 use mathlib.Core.Path.{◌≡◌, refl}
 use mathlib.Core.Bool.{Bool, true, false, ◌&&◌, beq}
@@ -8,7 +8,7 @@ use Prim.Native.Nat.{ℕ, ◌+◌, ◌*◌}
 use lib.Dec.{eqb}
 use lib.ListN.{length, get_or}
 use Rattle.definitions.specs.Lists.{all, any, filter, find_index, distinct, all_below, sum_below}
-use Rattle.definitions.specs.Word.{word_of, column_word}
+use Rattle.definitions.specs.Word.{word_of, column_word, none as ∄}
 use Rattle.definitions.specs.Image.{image_of, image_rows}
 use Rattle.definitions.specs.Ascending.{insert, ascending}
 use Rattle.definitions.specs.OuterUnion.{compare_row, union_ids, union_columns, widened, widened_rows, union_rows}
@@ -19,7 +19,7 @@ use Rattle.definitions.specs.Questions.{image_number}
 use Rattle.definitions.specs.Answer.{Outcome, done, refused}
 use Rattle.definitions.specs.Calls.{pair_outcome, outer_image, minimum_image, fused_image, complement_outcome}
 
--- a filled cell with its number, and the empty cell
+-- a filled cell with its number, and the empty cell; `∄` is the cell `none` of request A4
 abbrev # : ℕ → ℕ
 # number = word_of 1 number
 
@@ -72,7 +72,7 @@ with_address = (● ∷ ● ∷ ○ ∷ []) ∷ (● ∷ ○ ∷ ● ∷ []) ∷
 -- what is expected of two rows s and t
 record Verdicts : Type 0 where
   equal : Bool
-  -- some column is filled in both with the same number
+  -- some column is filled in both, with equal cells
   sharing : Bool
   -- s subsumes t
   subsuming : Bool
@@ -347,6 +347,121 @@ cases =
       sets = (● ∷ ○ ∷ ○ ∷ []) ∷ (○ ∷ ● ∷ ● ∷ []) ∷ [];
       joined_rows = (∅ ∷ # 2 ∷ ∅ ∷ # 4 ∷ []) ∷ (# 1 ∷ # 2 ∷ # 3 ∷ ∅ ∷ []) ∷ [];
       fused = (∅ ∷ # 2 ∷ ∅ ∷ # 4 ∷ []) ∷ (# 1 ∷ # 2 ∷ # 3 ∷ ∅ ∷ []) ∷ [];
+      pair = none;
+      again = none;
+    }
+    -- A4: `none` is shared
+    ∷ record {
+      first = image_of three ((∄ ∷ # 2 ∷ ∅ ∷ []) ∷ []);
+      second = image_of three ((∄ ∷ ∅ ∷ # 3 ∷ []) ∷ []);
+      columns = three;
+      union = (∄ ∷ ∅ ∷ # 3 ∷ []) ∷ (∄ ∷ # 2 ∷ ∅ ∷ []) ∷ [];
+      minimum = (∄ ∷ ∅ ∷ # 3 ∷ []) ∷ (∄ ∷ # 2 ∷ ∅ ∷ []) ∷ [];
+      sets = (● ∷ ● ∷ []) ∷ [];
+      joined_rows = (∄ ∷ # 2 ∷ # 3 ∷ []) ∷ [];
+      fused = (∄ ∷ # 2 ∷ # 3 ∷ []) ∷ [];
+      pair =
+          some
+          (record {
+            equal = ○;
+            sharing = ●;
+            subsuming = ○;
+            subsumed = ○;
+            complementing = ●;
+          });
+      again = none;
+    }
+    -- a joined row takes it from the one member that has it
+    ∷ record {
+      first = image_of three ((∅ ∷ ∄ ∷ # 3 ∷ []) ∷ []);
+      second = image_of three ((# 1 ∷ ∅ ∷ # 3 ∷ []) ∷ []);
+      columns = three;
+      union = (∅ ∷ ∄ ∷ # 3 ∷ []) ∷ (# 1 ∷ ∅ ∷ # 3 ∷ []) ∷ [];
+      minimum = (∅ ∷ ∄ ∷ # 3 ∷ []) ∷ (# 1 ∷ ∅ ∷ # 3 ∷ []) ∷ [];
+      sets = (● ∷ ● ∷ []) ∷ [];
+      joined_rows = (# 1 ∷ ∄ ∷ # 3 ∷ []) ∷ [];
+      fused = (# 1 ∷ ∄ ∷ # 3 ∷ []) ∷ [];
+      pair = none;
+      again = none;
+    }
+    -- empty, 0 and `none` side by side: the row that is empty there joins either of the others, which differ
+    ∷ record {
+      first = image_of three ((∄ ∷ # 2 ∷ ∅ ∷ []) ∷ (∅ ∷ # 2 ∷ # 3 ∷ []) ∷ []);
+      second = image_of three ((# 0 ∷ ∅ ∷ # 3 ∷ []) ∷ []);
+      columns = three;
+      union = (∅ ∷ # 2 ∷ # 3 ∷ []) ∷ (# 0 ∷ ∅ ∷ # 3 ∷ []) ∷ (∄ ∷ # 2 ∷ ∅ ∷ []) ∷ [];
+      minimum = (∅ ∷ # 2 ∷ # 3 ∷ []) ∷ (# 0 ∷ ∅ ∷ # 3 ∷ []) ∷ (∄ ∷ # 2 ∷ ∅ ∷ []) ∷ [];
+      sets = (● ∷ ● ∷ ○ ∷ []) ∷ (● ∷ ○ ∷ ● ∷ []) ∷ [];
+      joined_rows = (# 0 ∷ # 2 ∷ # 3 ∷ []) ∷ (∄ ∷ # 2 ∷ # 3 ∷ []) ∷ [];
+      fused = (# 0 ∷ # 2 ∷ # 3 ∷ []) ∷ (∄ ∷ # 2 ∷ # 3 ∷ []) ∷ [];
+      pair =
+          some
+          (record {
+            equal = ○;
+            sharing = ○;
+            subsuming = ○;
+            subsumed = ○;
+            complementing = ○;
+          });
+      again = none;
+    }
+    -- (none,-) subsumes (-,-), and neither subsumes nor is (0,-)
+    ∷ record {
+      first = image_of two ((∄ ∷ ∅ ∷ []) ∷ []);
+      second = image_of two ((∅ ∷ ∅ ∷ []) ∷ (# 0 ∷ ∅ ∷ []) ∷ []);
+      columns = two;
+      union = (∅ ∷ ∅ ∷ []) ∷ (# 0 ∷ ∅ ∷ []) ∷ (∄ ∷ ∅ ∷ []) ∷ [];
+      minimum = (# 0 ∷ ∅ ∷ []) ∷ (∄ ∷ ∅ ∷ []) ∷ [];
+      sets = alone;
+      joined_rows = (∅ ∷ ∅ ∷ []) ∷ (# 0 ∷ ∅ ∷ []) ∷ (∄ ∷ ∅ ∷ []) ∷ [];
+      fused = (∅ ∷ ∅ ∷ []) ∷ (# 0 ∷ ∅ ∷ []) ∷ (∄ ∷ ∅ ∷ []) ∷ [];
+      pair =
+          some
+          (record {
+            equal = ○;
+            sharing = ○;
+            subsuming = ●;
+            subsumed = ○;
+            complementing = ○;
+          });
+      again = none;
+    }
+    -- it stands behind the largest number, and isn't that
+    ∷ record {
+      first = image_of two ((∄ ∷ # 1 ∷ []) ∷ []);
+      second = image_of two ((# 1073741823 ∷ # 1 ∷ []) ∷ []);
+      columns = two;
+      union = (# 1073741823 ∷ # 1 ∷ []) ∷ (∄ ∷ # 1 ∷ []) ∷ [];
+      minimum = (# 1073741823 ∷ # 1 ∷ []) ∷ (∄ ∷ # 1 ∷ []) ∷ [];
+      sets = (● ∷ ○ ∷ []) ∷ (○ ∷ ● ∷ []) ∷ [];
+      joined_rows = (# 1073741823 ∷ # 1 ∷ []) ∷ (∄ ∷ # 1 ∷ []) ∷ [];
+      fused = (# 1073741823 ∷ # 1 ∷ []) ∷ (∄ ∷ # 1 ∷ []) ∷ [];
+      pair = none;
+      again = none;
+    }
+    -- shared in the marked column, it is evidence
+    ∷ record {
+      first = image_of (marked 7 ∷ column 8 ∷ column 9 ∷ []) ((∄ ∷ # 2 ∷ ∅ ∷ []) ∷ []);
+      second = image_of three ((∄ ∷ ∅ ∷ # 3 ∷ []) ∷ []);
+      columns = marked 7 ∷ column 8 ∷ column 9 ∷ [];
+      union = (∄ ∷ ∅ ∷ # 3 ∷ []) ∷ (∄ ∷ # 2 ∷ ∅ ∷ []) ∷ [];
+      minimum = (∄ ∷ ∅ ∷ # 3 ∷ []) ∷ (∄ ∷ # 2 ∷ ∅ ∷ []) ∷ [];
+      sets = (● ∷ ● ∷ []) ∷ [];
+      joined_rows = (∄ ∷ # 2 ∷ # 3 ∷ []) ∷ [];
+      fused = (∄ ∷ # 2 ∷ # 3 ∷ []) ∷ [];
+      pair = none;
+      again = none;
+    }
+    -- shared beside the marked column, it isn't
+    ∷ record {
+      first = image_of (column 7 ∷ marked 8 ∷ column 9 ∷ []) ((∄ ∷ # 2 ∷ ∅ ∷ []) ∷ []);
+      second = image_of three ((∄ ∷ ∅ ∷ # 3 ∷ []) ∷ []);
+      columns = column 7 ∷ marked 8 ∷ column 9 ∷ [];
+      union = (∄ ∷ ∅ ∷ # 3 ∷ []) ∷ (∄ ∷ # 2 ∷ ∅ ∷ []) ∷ [];
+      minimum = (∄ ∷ ∅ ∷ # 3 ∷ []) ∷ (∄ ∷ # 2 ∷ ∅ ∷ []) ∷ [];
+      sets = (● ∷ ○ ∷ []) ∷ (○ ∷ ● ∷ []) ∷ [];
+      joined_rows = (∄ ∷ ∅ ∷ # 3 ∷ []) ∷ (∄ ∷ # 2 ∷ ∅ ∷ []) ∷ [];
+      fused = (∄ ∷ ∅ ∷ # 3 ∷ []) ∷ (∄ ∷ # 2 ∷ ∅ ∷ []) ∷ [];
       pair = none;
       again = none;
     }

@@ -68,7 +68,7 @@ module _ (columns : List ℕ) where
   no_only s t l c h =
       ⊎_elim c.different (λ q. clash q c.not_subsuming) (covers_cases s t l (agree-covers s t (agree_of s t c.agreeing) h))
 
-  -- equally long rows complement each other exactly if each is filled in a column where the other is empty, they share a number where it
+  -- equally long rows complement each other exactly if each is filled in a column where the other is empty, they share a filled cell where it
   -- counts, and they agree
   pub complement_pattern : (s t : List ℕ) → length s ≡ length t
       → complement columns s t ≡ (only s t && (only t s && (share (counted_cells columns s) (counted_cells columns t) && agree s t)))

@@ -10,7 +10,7 @@ use lib.ListN.{length, get_or}
 use borrow.Author.Tests.{eqb-true, ltb-true, ltb-false, lt-ltb, le-ltb, not-true}
 use Rattle.definitions.specs.Word.{is_filled}
 use Rattle.definitions.specs.MinimumUnion.{filled, covers, subsumes}
-use Rattle.definitions.specs.Claims.{empties, CellCovers}
+use Rattle.definitions.specs.Claims.{Filled, empties, CellCovers}
 use Rattle.std.proofs.lemmas.Bool.{and_from, and_parts, or_cases}
 use Rattle.definitions.proofs.Bools.{bool_cases}
 use Rattle.definitions.proofs.Rows.{empty_cell, covers_at, covers_of}
@@ -45,6 +45,11 @@ subsumes_says s t e = (
   λ h. let i = (subsumes_is s t).0 h in ((more_empty s t e).0 i.0, covers_at s t i.1),
   λ h. (subsumes_is s t).1 ((more_empty s t e).1 h.0, covers_of s t h.1),
 )
+
+-- a filled cell of the subsumed row is one of the row that subsumes it
+pub subsumes_keeps : (s t : List ℕ) (k w : ℕ) → Filled w → subsumes s t ≡ true → get_or t k 0 ≡ w → get_or s k 0 ≡ w
+subsumes_keeps s t k w filled e h =
+    ⊎_elim (λ q. absurd (filled (sym h ∙ q))) (λ q. q ∙ h) (covers_at s t ((subsumes_is s t).0 e).1 k)
 
 pub covers_trans : (s t u : List ℕ) → covers s t ≡ true → covers t u ≡ true → covers s u ≡ true
 covers_trans s t u e f =

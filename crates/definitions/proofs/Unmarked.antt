@@ -1,4 +1,4 @@
--- Request A2, "if none is, any column counts as before": two tables without a marked column get what document 01 alone says.
+-- Request A2, "if none is, any column counts as before": two tables without a marked column get what they got before it.
 -- Assumes nothing.
 use mathlib.Core.Path.{◌≡◌, refl, sym, ◌∙◌, ap, ap₂}
 use mathlib.Core.Bool.{Bool, false, ◌&&◌, ◌||◌}

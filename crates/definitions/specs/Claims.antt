@@ -73,7 +73,7 @@ CellCovers x y = (y ≡ 0) ⊎ (x ≡ y)
 abbrev pub CellAgrees : ℕ → ℕ → Type 0
 CellAgrees x y = (x ≡ y) ⊎ ((x ≡ 0) ⊎ (y ≡ 0))
 
--- a column that is filled in both with the same number
+-- a column that is filled in both, with equal cells
 abbrev pub Shared : List ℕ → List ℕ → Type 0
 Shared s t = (k : ℕ) × Filled (get_or s k 0) × (get_or s k 0 ≡ get_or t k 0)
 
@@ -89,7 +89,7 @@ Counts columns k = (mark_of (get_or columns k 0) ≡ true) ⊎ (any mark_of colu
 abbrev pub counts_column : List ℕ → ℕ → Bool
 counts_column columns k = mark_of (get_or columns k 0) || not (any mark_of columns)
 
--- a column that counts and is filled in both with the same number
+-- a column that counts and is filled in both, with equal cells
 abbrev pub SharedCounted : List ℕ → List ℕ → List ℕ → Type 0
 SharedCounted columns s t = (k : ℕ) × Counts columns k × Filled (get_or s k 0) × (get_or s k 0 ≡ get_or t k 0)
 

@@ -21,7 +21,7 @@ agree [] t = true
 agree (x ∷ s) [] = true
 agree (x ∷ s) (y ∷ t) = (eqb x y || not (is_filled x) || not (is_filled y)) && agree s t
 
--- "(3) some column is filled in both with the same number"
+-- "(3) some column is filled in both with the same number", or by request A4 with `none`
 unfoldable pub share : List ℕ → List ℕ → Bool
 share [] t = false
 share (x ∷ s) [] = false
@@ -106,7 +106,7 @@ join (x ∷ s) [] = x ∷ s
 join (x ∷ s) (y ∷ t) = cond (is_filled x) x y ∷ join s t
 
 -- joined row, a term of document 01: "The joined row of a set has, in each column, the number that some member has there,
--- or empty."
+-- or empty." Request A4: "takes it from a member as it takes a number"
 unfoldable pub join_all : List (List ℕ) → List ℕ
 join_all [] = []
 join_all (r ∷ rows) = join r (join_all rows)

@@ -20,6 +20,7 @@ pub mod Page
 pub mod Statements
 pub mod Claims
 pub mod PageClaims
+pub mod NoneClaims
 pub mod Unmarked
 pub mod Demand3
 pub mod Promise

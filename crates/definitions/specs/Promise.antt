@@ -1,19 +1,24 @@
 -- What each call promises, whatever words its inputs and its lent buffers hold: the answer, every word of
 -- each buffer afterwards, and of complement union demand 3. This is all that a call promises; its `ensures` says it by name.
-use Rattle.std.specs.Prelude.{◌≡◌, ◌↔◌, List, [], ◌∷◌, ℕ, ◌<◌, ◌≤◌, length, take, drop}
+use Rattle.std.specs.Prelude.{◌≡◌, ◌⊎◌, ◌↔◌, List, [], ◌∷◌, ℕ, ◌+◌, ◌*◌, ◌<◌, ◌≤◌, length, get_or, take, drop}
 use Rattle.definitions.specs.Limits.{mark_words, max_stored_rows}
-use Rattle.definitions.specs.Image.{row_count, column_count}
+use Rattle.definitions.specs.Word.{none}
+use Rattle.definitions.specs.Image.{row_count, column_count, image_rows}
 use Rattle.definitions.specs.OuterUnion.{union_columns, union_rows}
 use Rattle.definitions.specs.SetList.{set_list}
-use Rattle.definitions.specs.ComplementUnion.{union_sets}
+use Rattle.definitions.specs.ComplementUnion.{members, union_sets}
 use Rattle.definitions.specs.Answer.{Outcome, done, afterwards}
 use Rattle.definitions.specs.Calls.{Accepted, outer_image, minimum_image, fused_image}
 use Rattle.definitions.specs.Calls.{outer_outcome, minimum_outcome, complement_outcome}
 use Rattle.definitions.specs.ReadBack.{words_room, read_outcome, read_words, made_words, entries_of, list_again}
-use Rattle.definitions.specs.Page.{page, page_count, page_bytes, page_outcome}
-use Rattle.definitions.specs.PageClaims.{IsPage, CellPlace, CellShown}
-use Rattle.definitions.specs.Claims.{Passed}
-use Rattle.definitions.specs.Demand3.{MeetsDemand3, words_of_table, words_of_sets, SameResult}
+use Rattle.definitions.specs.Reading.{set_count}
+use Rattle.definitions.specs.Text.{ascii}
+use Rattle.definitions.specs.Page.{cell_width, page, page_count, page_bytes, page_outcome}
+use Rattle.definitions.specs.PageClaims.{line_bytes, IsPage, CellPlace, before_field, bytes_at, CellShown}
+use Rattle.definitions.specs.Statements.{Member}
+use Rattle.definitions.specs.Claims.{Passed, Filled}
+use Rattle.definitions.specs.NoneClaims.{StandsIn}
+use Rattle.definitions.specs.Demand3.{listed_sets, position_at, MeetsDemand3, words_of_table, words_of_sets, SameResult}
 
 -- a call with one lent buffer, by its outcome and its result
 pub record BufferPromise (outcome : Outcome) (result found : List ℕ) (answer : Outcome) (after : List ℕ) : Type 0 where
@@ -111,3 +116,35 @@ FusedHasPages =
     → n < page_count (fused_image a b) → page_bytes ≤ length bytes
     → PagePromise (take (words_of_table (done values)) table_after) n bytes answer bytes_after
     → BufferPromise (done (page_count (fused_image a b) ∷ [])) (page (fused_image a b) n) bytes answer bytes_after)
+
+-- ---- request A4
+
+-- "Every union reads it so": a filled word, a number or `none`, stands in a column of the result of a done call exactly if it stands in
+-- that column of either table
+abbrev pub UnionsKeepCells : Type 0
+UnionsKeepCells =
+    (a b table sets values table_after sets_after : List ℕ)
+    → OuterPromise a b table (done values) table_after
+    ⊎ (MinimumPromise a b table (done values) table_after ⊎ ComplementPromise a b table sets (done values) table_after sets_after)
+    → (id w : ℕ) → Filled w → StandsIn table_after id w ↔ (StandsIn a id w ⊎ StandsIn b id w)
+
+-- "a joined row takes it from a member as it takes a number": the fused row of a listed set has a filled word in a column exactly if a
+-- member of the set has it there
+abbrev pub JoinedRowsTake : Type 0
+JoinedRowsTake =
+    (a b table sets values table_after sets_after : List ℕ)
+    → ComplementPromise a b table sets (done values) table_after sets_after
+    → (k column w : ℕ) → k < set_count sets_after → Filled w
+    → (get_or (get_or (image_rows table_after) (position_at sets_after k) []) column 0 ≡ w)
+    ↔ ((r : List ℕ) × Member r (members (union_rows a b) (get_or (listed_sets (union_rows a b) sets_after) k [])) × (get_or r column 0 ≡ w))
+
+-- "Listings and pages show `none`": for every row and column of an accepted image that has it there is a page, and on it a place; every
+-- call of that page with at least 4,860 bytes is done, and shows it there
+abbrev pub NoneIsShown : Type 0
+NoneIsShown =
+    (image : List ℕ) → Passed max_stored_rows image → (row column : ℕ) → row < row_count image → column < column_count image
+    → get_or (get_or (image_rows image) row []) column 0 ≡ none
+    → (place : CellPlace) × ((bytes : List ℕ) (answer : Outcome) (bytes_after : List ℕ) → page_bytes ≤ length bytes
+    → PagePromise image place.on_page bytes answer bytes_after
+    → (answer ≡ done (page_count image ∷ [])) × CellShown image row column place bytes_after
+    × (bytes_at (place.on_line * line_bytes + before_field place.field) cell_width bytes_after ≡ ascii "        none"))

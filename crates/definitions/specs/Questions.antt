@@ -29,7 +29,7 @@ columns_right image = all is_column (column_words image)
 abbrev pub ids_distinct : List ℕ → Bool
 ids_distinct image = distinct eqb (image_ids image)
 
--- "Is every cell either zero or of kind 1?"
+-- "Is every cell either zero or of kind 1?", where by request A4 number 7 is given for a cell that is neither, "nor this word", `none`
 abbrev pub cells_right : List ℕ → Bool
 cells_right image = all is_cell (cell_words image)
 

@@ -1,12 +1,12 @@
 -- Document 01, "Program `fuse`": numbers, ids and cells as text, for the listing and for the pages of request A3. A text is a list of bytes.
-use Rattle.std.specs.Prelude.{ℕ, zero, suc, ◌+◌, ◌/◌, ◌%◌, ◌^◌, cond, List, [], ◌∷◌, ◌++◌, ltb}
+use Rattle.std.specs.Prelude.{ℕ, zero, suc, ◌+◌, ◌/◌, ◌%◌, ◌^◌, cond, List, [], ◌∷◌, ◌++◌, eqb, ltb}
 use Prim.Native.Char.{code}
-use Prim.Native.String.{String, [] as none, ◌∷◌ as ◌then◌}
-use Rattle.definitions.specs.Word.{id_of, is_filled}
+use Prim.Native.String.{String, [] as end, ◌∷◌ as ◌then◌}
+use Rattle.definitions.specs.Word.{id_of, is_filled, none}
 
 -- the bytes of a text of ASCII characters
 abbrev pub ascii : String → List ℕ
-ascii none = []
+ascii end = []
 ascii (c then text) = code c ∷ ascii text
 
 -- the decimal digits of n, with no zeros in front; each step takes a digit off, and n steps are enough
@@ -23,6 +23,6 @@ decimal n = digits n n
 abbrev pub id_text : ℕ → List ℕ
 id_text w = decimal (id_of w)
 
--- "`-` is empty"; of a filled cell, the number in its low 30 bits
+-- request A4: "Listings and pages show `none`"; "`-` is empty"; of any other cell, the number in its low 30 bits
 unfoldable pub cell_text : ℕ → List ℕ
-cell_text w = cond (is_filled w) (decimal (w % 2 ^ 30)) (ascii "-")
+cell_text w = cond (eqb w none) (ascii "none") (cond (is_filled w) (decimal (w % 2 ^ 30)) (ascii "-"))

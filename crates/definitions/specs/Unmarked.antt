@@ -1,4 +1,4 @@
--- Request A2, "if none is, any column counts as before": two tables without a marked column get what document 01 alone says.
+-- Request A2, "if none is, any column counts as before": two tables without a marked column get what they got before it.
 use Rattle.std.specs.Prelude.{◌≡◌, Bool, false, not, ◌&&◌, List, [], map, ℕ, ◌/◌, ◌%◌, ◌^◌, eqb, length, get_or}
 use Rattle.definitions.specs.Lists.{all, any}
 use Rattle.definitions.specs.Word.{kind_of, mark_of, word_of}

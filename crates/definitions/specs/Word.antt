@@ -1,5 +1,6 @@
--- Document 01, "Table image": a 32-bit word and its fields. Bit 0 is the lowest.
-use Rattle.std.specs.Prelude.{ℕ, zero, suc, ◌+◌, ◌*◌, ◌/◌, ◌%◌, ◌^◌, Bool, true, false, cond, not, eqb}
+-- Document 01, "Table image", with the marks of request A2 and the cell `none` of request A4: a 32-bit word and its fields. Bit 0 is the
+-- lowest.
+use Rattle.std.specs.Prelude.{ℕ, ◌+◌, ◌*◌, ◌/◌, ◌%◌, ◌^◌, Bool, cond, not, ◌||◌, eqb}
 
 -- "A word's top two bits are its kind"
 abbrev pub kind_of : ℕ → ℕ
@@ -38,15 +39,14 @@ column_spare w = w / 2 ^ 16 % 2 ^ 13
 abbrev pub column_word : ℕ → Bool → ℕ
 column_word id mark = word_of 2 (cond mark (2 ^ 29) 0 + id)
 
--- "Kind 0 with all other bits zero is the empty cell. Kind 1 is a filled cell."
+-- request A4: "A cell of kind 2 with all other bits zero" says "there is none"
+abbrev pub none : ℕ
+none = word_of 2 0
+
+-- "Kind 0 with all other bits zero is the empty cell. Kind 1 is a filled cell", and of `none` request A4 says: "It is filled"
 abbrev pub is_filled : ℕ → Bool
 is_filled w = not (eqb w 0)
 
--- a word that may stand as a cell
-abbrev pub cell_of_kind : ℕ → ℕ → Bool
-cell_of_kind zero w = eqb w 0
-cell_of_kind (suc zero) w = true
-cell_of_kind (suc (suc k)) w = false
-
+-- a word that may stand as a cell: "number 7 is given for a cell that is neither zero, nor of kind 1, nor this word"
 abbrev pub is_cell : ℕ → Bool
-is_cell w = cell_of_kind (kind_of w) w
+is_cell w = eqb w 0 || eqb (kind_of w) 1 || eqb w none

@@ -6,9 +6,10 @@ use run_cases::folder;
 use std::io;
 
 // Each case: its title, and its folder. The last two have no pages.
-const CASES: [(&str, &str); 4] = [
+const CASES: [(&str, &str); 5] = [
     ("pages of two tables without rows", "no_rows"),
     ("pages of 32 rows of 16 columns in each file", "full_tables"),
+    ("pages of a device that has no guest", "none"),
     ("no pages, as both files are ragged", "ragged_both"),
     ("no pages, as there are 1,025 sets", "refused_9"),
 ];

@@ -6,13 +6,14 @@ use run_cases::folder;
 use std::io;
 
 // Each case: its title, and its folder.
-const CASES: [(&str, &str); 15] = [
+const CASES: [(&str, &str); 16] = [
     // Pairs that are accepted.
     ("two tables without rows", "no_rows"),
     ("64 rows that all complement each other", "one_set"),
     ("1,024 sets", "many_sets"),
     ("32 rows of 16 columns in each file", "full_tables"),
     ("a column is marked", "marked"),
+    ("a device has no guest", "none"),
     // A missing file is empty.
     ("board.tbl is missing", "no_board"),
     ("plant.tbl is missing", "no_plant"),

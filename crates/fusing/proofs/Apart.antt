@@ -20,7 +20,7 @@ both_in [] t = false
 both_in (x ∷ s) [] = false
 both_in (x ∷ s) (y ∷ t) = (is_filled x && is_filled y) || both_in s t
 
--- a shared number is a column filled in both; where the rows agree, a column filled in both is a shared number
+-- a shared cell is a column filled in both; where the rows agree, a column filled in both is a shared cell
 cell_share : (x y : ℕ) (b h : Bool) → (eqb x y || not (is_filled x) || not (is_filled y)) ≡ true → b ≡ h
     → ((is_filled x && is_filled y) || b) ≡ ((is_filled x && eqb x y) || h)
 cell_share x y b h agrees e =

@@ -1,4 +1,4 @@
--- The joined row of a set, a step a column: a member that is filled in a column has the number there. Assumes nothing.
+-- The joined row of a set, a step a column: a member that is filled in a column has the joined cell there. Assumes nothing.
 use mathlib.Core.Path.{◌≡◌, refl, sym, ◌∙◌, ap}
 use mathlib.Core.Bool.{Bool, true, ◌&&◌}
 use mathlib.Core.List.{List, [], ◌∷◌}

@@ -1,4 +1,4 @@
-// The joined rows of sets. In each column the first member that is filled there has the number, so that a joined row takes one step a
+// The joined rows of sets. In each column the first member that is filled there has the joined cell, so that a joined row takes one step a
 // column, however many members there are.
 ghost use Rattle.std.specs.Prelude.{◌≡◌, ◌*◌, ◌≤◌, ◌<◌, length};
 ghost use Rattle.definitions.specs.Image.{rows_in};

@@ -5,7 +5,7 @@ use run_cases::{image, print};
 use std::io;
 
 // Each case: its name, its two tables, and the words of the buffer.
-const CASES: [(&str, &str, &str, usize); 12] = [
+const CASES: [(&str, &str, &str, usize); 13] = [
     (
         "minimum of board and plant",
         ":;<| 73- 7-X 95Y",
@@ -23,6 +23,12 @@ const CASES: [(&str, &str, &str, usize); 12] = [
     ),
     ("minimum, none subsumed", "12| 12 31 23", "12| -4 4-", 20),
     ("minimum, number 0 subsumes", "12| 0-", "12| --", 8),
+    (
+        "minimum, the cell none subsumes",
+        "12| !- 0- !3 -!",
+        "12| -- 04",
+        16,
+    ),
     ("minimum of marked columns", "a2| 3- 34", "2c| 4- 45", 16),
     (
         "minimum of 64 rows",

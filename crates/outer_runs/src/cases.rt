@@ -4,12 +4,13 @@ use run_cases::image;
 use std::io;
 
 // Each case: its name, its two tables, and the words of the buffer.
-const CASES: [(&str, &str, &str, usize); 19] = [
+const CASES: [(&str, &str, &str, usize); 20] = [
     // rows
     ("no rows", "1|", "1|", 8),
     ("one cell", "1| 7", "1|", 8),
     ("one empty cell", "1| -", "1| -", 8),
     ("number 0 is filled", "1| 0", "1| -", 8),
+    ("none, 0 and empty", "12| !1 -1 01", "21| 10 1! 1z", 16),
     ("equal rows", "12| 34 34", "12| 34", 8),
     ("32 rows", "1| 0123456789:;<=>?@ABCDEFGHIJKLMNO", "1| -", 40),
     (

@@ -19,7 +19,7 @@ fn both(
 }
 
 // Each case of one table spoiled in one way.
-const EACH: [(&str, Change); 20] = [
+const EACH: [(&str, Change); 23] = [
     // heads
     ("no words", Length(0)),
     ("header of kind 2", Word(0, 0x8008_0002)),
@@ -39,9 +39,12 @@ const EACH: [(&str, Change); 20] = [
     ("bits 29 and 28 of a column", Word(2, 0xb000_0002)),
     ("column given twice", Word(1, 0x8000_0002)),
     ("column given twice, once marked", Word(1, 0xa000_0002)),
-    ("cell of kind 2", Word(6, 0x8000_0000)),
+    ("cell of kind 2", Word(6, 0x8000_0001)),
     ("cell of kind 3", Word(3, 0xc000_0001)),
     ("cell of kind 0, not zero", Word(5, 1)),
+    ("cell of kind 2 with bit 29", Word(4, 0xa000_0000)),
+    ("cell of kind 3, all other bits zero", Word(5, 0xc000_0000)),
+    ("the cell none", Word(6, 0x8000_0000)),
 ];
 
 pub(crate) fn run(rt: &(impl Print + AllocGlobal)) -> io::Result<()> {

@@ -20,7 +20,7 @@ const CASES: [(u32, u32, u32, usize); 7] = [
 ];
 
 // Each case: its name, and how a table of 1,024 rows of 16 columns is spoiled.
-const SPOILED: [(&str, Change); 8] = [
+const SPOILED: [(&str, Change); 9] = [
     ("no words", Length(0)),
     ("17 columns in the header", Word(0, 0xd000_0011)),
     ("1,025 rows in the header", Word(0, 0xd004_0010)),
@@ -29,6 +29,7 @@ const SPOILED: [(&str, Change); 8] = [
     ("bit 16 of a column", Word(2, 0x8001_fffe)),
     ("column given twice, once marked", Word(2, 0xa000_ffff)),
     ("last cell of kind 3", Word(16400, 0xc000_0001)),
+    ("last cell of kind 2, not none", Word(16400, 0x8000_0001)),
 ];
 
 pub(crate) fn run(rt: &(impl Print + AllocGlobal)) -> io::Result<()> {

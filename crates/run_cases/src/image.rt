@@ -1,5 +1,6 @@
 // Table images from a short text: the columns, a bar, then the cells row by row. A byte stands for the number that it is above `0`, a `-`
-// for the empty cell; spaces among the cells are passed over. Of the columns, a small letter stands for a marked one: `a` for that with id 1.
+// for the empty cell, a `!` for the cell `none`; spaces among the cells are passed over. Of the columns, a small letter stands for a marked
+// one: `a` for that with id 1.
 ghost use Rattle.std.specs.Iterator.{IsFinite};
 
 use std::alloc::{AllocError, Global};
@@ -21,6 +22,7 @@ fn column(byte: u8) -> u32 {
 fn cell(byte: u8) -> u32 {
     match byte {
         b'-' => 0,
+        b'!' => 0x8000_0000,
         _ => 0x4000_0000 | number(byte),
     }
 }

@@ -8,7 +8,7 @@ ghost use Rattle.text.specs.Bytes.{space, newline, spaced};
 ghost use Rattle.text.specs.Writer.{HasRoom, Wrote};
 
 use lists::write_over;
-use words::low_bits;
+use words::{NONE, low_bits};
 
 // "Fields have one space between them, lines end with byte 10."
 const SPACE: u8 = b' ';
@@ -164,7 +164,7 @@ impl Style for Id {
     }
 }
 
-// A cell by its number, and the empty cell by `-`.
+// A number by its digits, the empty cell by `-`, and the cell that says "there is none" by `none`.
 pub struct Cell;
 
 impl Style for Cell {
@@ -173,10 +173,10 @@ impl Style for Cell {
     ghost shown = { cell_text };
 
     fn put(value: u32, out: &mut Writer) {
-        if value == 0 {
-            out.text(b"-");
-        } else {
-            out.number(low_bits(value) as usize);
+        match value {
+            0 => out.text(b"-"),
+            NONE => out.text(b"none"),
+            _ => out.number(low_bits(value) as usize),
         }
     }
 }

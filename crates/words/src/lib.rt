@@ -7,6 +7,9 @@ ghost use Rattle.definitions.specs.Word.{kind_of, word_of, rows_of, columns_of, 
 ghost use Rattle.definitions.specs.Word.{column_word, is_cell};
 ghost use Rattle.definitions.specs.Image.{is_header};
 
+// The cell that says: there is none. Of kind 2, all other bits zero.
+pub const NONE: u32 = 0x8000_0000;
+
 // The two top bits. A kind is its number, which document 01 asks to be matched.
 pub fn kind(w: u32) -> u32
     ensures { result ≡ kind_of w }
@@ -70,13 +73,15 @@ pub fn column_spare(w: u32) -> u32
     (w >> 16) & 0x1fff
 }
 
-// Whether a word may stand as a cell: zero, or of kind 1.
+// Whether a word may stand as a cell: zero, of kind 1, or `NONE`. That one is a guard on the range: with an arm of its own for kind 2, LLVM
+// makes a jump table of the match, and a jump for each cell.
 pub fn is_cell(w: u32) -> bool
     ensures { result ≡ is_cell w }
 {
     match kind(w) {
         0 => w == 0,
         1 => true,
+        2.. if w == NONE => true,
         2.. => false,
     }
 }

@@ -62,6 +62,8 @@ mod raw {
 
 /// The mark of a column word.
 pub const MARK: u32 = 0x2000_0000;
+/// The cell of what is known to be none.
+pub const NONE: u32 = 0x8000_0000;
 /// Table words that are enough for every outer and every minimum union.
 pub const UNION_WORDS: usize = 1 + 16 + 64 * 16;
 /// Table words that are enough for every complement union.

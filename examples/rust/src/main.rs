@@ -2,7 +2,7 @@
 //! in use of the page that shows them.
 
 use fusion::{complement_union, page, Refusal};
-use fusion::{FUSED_WORDS, LINE_BYTES, PAGE_BYTES, SET_WORDS};
+use fusion::{FUSED_WORDS, LINE_BYTES, NONE, PAGE_BYTES, SET_WORDS};
 use std::process::ExitCode;
 
 /// An image: header, columns and cells.
@@ -42,6 +42,7 @@ fn example() -> Result<(), Refusal> {
             .iter()
             .map(|&cell| match cell {
                 0 => "-".to_string(),
+                NONE => "none".to_string(),
                 _ => (cell & 0x3FFF_FFFF).to_string(),
             })
             .collect();

@@ -1,0 +1,176 @@
+-- Request A4, "Every union reads it so": a filled word, a number or `none`, stands in a column of each union's result exactly if it stands
+-- in that column of either table. Assumes nothing.
+use mathlib.Core.Path.{◌≡◌, refl, sym, ◌∙◌, ap, subst}
+use mathlib.Core.Bool.{true}
+use mathlib.Core.Logic.{◌⊎◌, ◌↔◌, inl, inr, ⊎_elim}
+use mathlib.Core.List.{List, [], ◌++◌, map}
+use Prim.Native.Nat.{ℕ, ◌^◌, ◌<◌}
+use native.Mathlib.Omega.{arith}
+use lib.Dec.{eqb}
+use lib.ListN.{length, get_or}
+use borrow.Author.Tests.{eqb-true, eq-eqb}
+use Rattle.definitions.specs.Limits.{max_rows}
+use Rattle.definitions.specs.Lists.{any, find_index}
+use Rattle.definitions.specs.Word.{id_of}
+use Rattle.definitions.specs.Image.{image_ids, image_rows, image_of}
+use Rattle.definitions.specs.OuterUnion.{union_ids, union_columns, cell_in, widened, union_rows}
+use Rattle.definitions.specs.MinimumUnion.{subsumes, minimum_rows}
+use Rattle.definitions.specs.ComplementUnion.{joined, fused_rows}
+use Rattle.definitions.specs.Calls.{Accepted, outer_image, minimum_image, fused_image}
+use Rattle.definitions.specs.Statements.{Member}
+use Rattle.definitions.specs.Claims.{Passed, Filled, WidenedOf}
+use Rattle.definitions.specs.NoneClaims.{StandsIn}
+use Rattle.definitions.specs.Promise.{UnionsKeepCells}
+use Rattle.definitions.proofs.Bools.{bool_cases, clash}
+use Rattle.definitions.proofs.Lists.{member-get, any_true, any_of, find_index_found, find_index_at}
+use Rattle.definitions.proofs.Subsumption.{subsumes_keeps}
+use Rattle.definitions.proofs.Widened.{widened_at, cell_lacking}
+use Rattle.definitions.proofs.Joined.{joined_some, members_are}
+use Rattle.definitions.proofs.Minimum.{minimum_is, every_row_stays}
+use Rattle.definitions.proofs.Counts.{fused_count, minimum_count}
+use Rattle.definitions.proofs.Unions.{ids_are, rows_are, columns_count, rows_even, minimum_even, fused_are, fused_even}
+use Rattle.definitions.proofs.UnionColumns.{columns_ids, columns_few}
+use Rattle.definitions.proofs.Questions.{passed_is}
+use Rattle.definitions.proofs.Outcomes.{outer_done, minimum_done, complement_done}
+use Rattle.definitions.proofs.Images.{words_front, image_rows_front, passed_ids, passed_rows, accepted_rows}
+use Rattle.definitions.proofs.Demand3.{every_row}
+
+-- some row has the word in the column with an id
+abbrev RowsHave : List ℕ → List (List ℕ) → ℕ → ℕ → Type 0
+RowsHave ids rows id w = (row : List ℕ) × Member row rows × (cell_in ids row id ≡ w)
+
+-- an id whose cell is filled in a row is one of the row's
+own_id : (ids row : List ℕ) (id w : ℕ) → length row ≡ length ids → Filled w → cell_in ids row id ≡ w → Member id ids
+own_id ids row id w size filled e =
+    bool_cases (any (eqb id) ids)
+    (λ q. let i = any_true (eqb id) ids q in subst (λ (x : ℕ). Member x ids) (sym (eqb-true id i.0 i.2)) i.1)
+    (λ q.
+    let lacking : Member id ids → ⊥ = λ m. clash (any_of (eqb id) id ids m (eq-eqb id id refl)) q in
+    absurd (filled (sym e ∙ cell_lacking [] ids row size id lacking)))
+
+module _ (a b : List ℕ) where
+  abbrev ids : List ℕ
+  ids = union_ids a b
+
+  abbrev columns : List ℕ
+  columns = union_columns a b
+
+  abbrev T : List (List ℕ)
+  T = union_rows a b
+
+  -- a widened row has in its own columns what it had
+  widened_has : (image row : List ℕ) (id : ℕ) → Member id ids → cell_in ids (widened ids (image_ids image) row) id ≡ cell_in (image_ids image) row id
+  widened_has image row id m =
+      let k = find_index (eqb id) ids in
+      let within = find_index_found (eqb id) id ids m (eq-eqb id id refl) in
+      let same = eqb-true id (get_or ids k 0) (find_index_at (eqb id) 0 ids within) in
+      widened_at ids (image_ids image) row k within ∙ ap (cell_in (image_ids image) row) (sym same)
+
+  module _ (id w : ℕ) (filled : Filled w) where
+    abbrev Given : Type 0
+    Given = StandsIn a id w ⊎ StandsIn b id w
+
+    -- ---- T
+
+    to_union : (image : List ℕ) → Passed max_rows image → (Member id (image_ids image) → Member id ids)
+        → ((r : List ℕ) → WidenedOf a b image r → Member r T) → StandsIn image id w → RowsHave ids T id w
+    to_union image p known row i =
+        let own = own_id (image_ids image) i.0 id w (passed_rows max_rows image p i.0 i.1 ∙ sym (passed_ids max_rows image p)) filled i.2 in
+        (widened ids (image_ids image) i.0, row _ (i.0, i.1, refl), widened_has image i.0 id (known own) ∙ i.2)
+
+    in_union : Accepted a b → Given → RowsHave ids T id w
+    in_union c =
+        ⊎_elim
+        (to_union a ((passed_is max_rows a).0 c.first) (λ m. (ids_are a b id).1 (inl m)) (λ r v. (rows_are a b r).1 (inl v)))
+        (to_union b ((passed_is max_rows b).0 c.second) (λ m. (ids_are a b id).1 (inr m)) (λ r v. (rows_are a b r).1 (inr v)))
+
+    from_union : RowsHave ids T id w → Given
+    from_union i =
+        let m = own_id ids i.0 id w (rows_even a b i.0 i.1 ∙ columns_count a b) filled i.2 in
+        let back : (image : List ℕ) → WidenedOf a b image i.0 → StandsIn image id w =
+        λ image v. (v.0, v.1, sym (widened_has image v.0 id m) ∙ ap (λ (r : List ℕ). cell_in ids r id) (sym v.2) ∙ i.2) in
+        ⊎_elim (λ v. inl (back a v)) (λ v. inr (back b v)) ((rows_are a b i.0).0 i.1)
+
+  -- ---- rows that keep the cells of T: they cover its rows, and each filled cell of theirs is one of its rows'
+
+  pub record Keeps (rows : List (List ℕ)) : Type 0 where
+    covering : (t : List ℕ) → Member t T → (f : List ℕ) × Member f rows × ((f ≡ t) ⊎ (subsumes f t ≡ true))
+    taken : (f : List ℕ) → Member f rows → (k : ℕ) → Filled (get_or f k 0) → (t : List ℕ) × Member t T × (get_or f k 0 ≡ get_or t k 0)
+    even : (f : List ℕ) → Member f rows → length f ≡ length columns
+    few : length rows < 2 ^ 12
+
+  module _ (c : Accepted a b) where
+    union_keeps : Keeps T
+    union_keeps = record {
+      covering = λ t m. (t, m, inl refl);
+      taken = λ f m k filled. (f, m, refl);
+      even = rows_even a b;
+      few = omega (arith, accepted_rows a b c);
+    }
+
+    minimum_keeps : Keeps (minimum_rows T)
+    minimum_keeps = record {
+      covering = every_row_stays T;
+      taken = λ f m k filled. (f, ((minimum_is T f).0 m).0, refl);
+      even = minimum_even a b;
+      few = omega (arith, accepted_rows a b c, minimum_count T);
+    }
+
+    fused_keeps : length (fused_rows columns T) < 2 ^ 12 → Keeps (fused_rows columns T)
+    fused_keeps few = record {
+      covering = every_row a b;
+      taken = λ f m k filled.
+          let j = (fused_are columns T f).0 m in
+          let own : get_or f k 0 ≡ get_or (joined T j.0) k 0 = ap (λ (r : List ℕ). get_or r k 0) j.2 in
+          let i = joined_some T j.0 k (λ z. filled (own ∙ z)) in
+          let at = (members_are T j.0 i.0).0 i.1 in
+          (i.0, subst (λ (r : List ℕ). Member r T) (sym at.3) (member-get [] T at.0 at.1), own ∙ i.2);
+      even = fused_even columns T (length columns) (rows_even a b);
+      few = few;
+    }
+
+    module _ (rows : List (List ℕ)) (keeps : Keeps rows) (id w : ℕ) (filled : Filled w) where
+      kept : RowsHave ids rows id w ↔ Given id w filled
+      kept =
+          let k = find_index (eqb id) ids in (
+            λ i.
+                let t = keeps.taken i.0 i.1 k (λ z. filled (sym i.2 ∙ z)) in
+                from_union id w filled (t.0, t.1, sym t.2 ∙ i.2),
+            λ h.
+                let t = in_union id w filled c h in
+                let f = keeps.covering t.0 t.1 in
+                let same : f.0 ≡ t.0 → get_or f.0 k 0 ≡ w = λ e. ap (λ (r : List ℕ). get_or r k 0) e ∙ t.2 in
+                (f.0, f.1, ⊎_elim same (λ e. subsumes_keeps f.0 t.0 k w filled e t.2) f.2),
+          )
+
+      -- the image of the rows at the front of a buffer
+      pub front_keeps : (after rest : List ℕ) → after ≡ image_of columns rows ++ rest → StandsIn after id w ↔ (StandsIn a id w ⊎ StandsIn b id w)
+      front_keeps after rest e =
+          let front = image_of columns rows ++ rest in
+          let narrow : length columns < 2 ^ 5 = omega (arith, columns_few a b c) in
+          let words = ap (map id_of) (words_front columns rows narrow rest) ∙ columns_ids a b in
+          let read = image_rows_front columns rows narrow rest keeps.few keeps.even in
+          subst (λ (x : List ℕ). StandsIn x id w ↔ Given id w filled) (sym e)
+          (subst (λ (x : List ℕ). RowsHave x (image_rows front) id w ↔ Given id w filled) (sym words)
+          (subst (λ (x : List (List ℕ)). RowsHave ids x id w ↔ Given id w filled) (sym read) kept))
+
+-- ---- the three calls
+
+pub unions_keep_cells : UnionsKeepCells
+unfolding outer_image minimum_image fused_image
+unions_keep_cells a b table sets values table_after sets_after call id w filled =
+    let columns = union_columns a b in
+    let T = union_rows a b in
+    ⊎_elim
+    (λ p.
+    let c = ((outer_done a b (length table) values).0 (sym p.answers)).accepted in
+    front_keeps a b c T (union_keeps a b c) id w filled table_after _ p.writes)
+    (⊎_elim
+    (λ p.
+    let c = ((minimum_done a b (length table) values).0 (sym p.answers)).accepted in
+    front_keeps a b c (minimum_rows T) (minimum_keeps a b c) id w filled table_after _ p.writes)
+    (λ p.
+    let d = (complement_done a b (length table) (length sets) values).0 (sym p.answers) in
+    let keeps = fused_keeps a b d.accepted (omega (arith, d.few_sets, fused_count columns T)) in
+    front_keeps a b d.accepted (fused_rows columns T) keeps id w filled table_after _ p.writes))
+    call
