@@ -2,24 +2,11 @@
 
 mod common;
 
-use common::{column, example, image, marked, table, FILL};
-#[cfg(feature = "product")]
-use fusion_bench::ffi::Product;
+use common::{agreed, column, example, image, implementations, marked, table, FILL};
 use fusion_bench::generate::{Rng, Table};
-use fusion_bench::naive::Naive;
 use fusion_bench::pages::{fields, read_back};
-use fusion_bench::reference::Reference;
 use fusion_bench::stored;
-use fusion_bench::{Call, Library, ANSWER_WORDS, MAX_SET_WORDS, MAX_TABLE_WORDS, PAGE_BYTES};
-
-fn implementations() -> Vec<Box<dyn Library>> {
-    vec![
-        Box::new(Reference::new()),
-        Box::new(Naive::default()),
-        #[cfg(feature = "product")]
-        Box::new(Product),
-    ]
-}
+use fusion_bench::{Call, ANSWER_WORDS, MAX_SET_WORDS, MAX_TABLE_WORDS, PAGE_BYTES};
 
 /// A page with `room` bytes lent, by every implementation: how many pages there
 /// are and the page's bytes, or the number and the table of the refusal. Every
@@ -45,10 +32,7 @@ fn page_in(image: &[u32], page: u32, room: usize) -> Result<(u32, Vec<u8>), (u32
             Err((number, table))
         });
     }
-    for result in &results[1..] {
-        assert_eq!(result, &results[0]);
-    }
-    results.swap_remove(0)
+    agreed(results)
 }
 
 fn page(image: &[u32], page: u32) -> Result<(u32, Vec<u8>), (u32, u32)> {

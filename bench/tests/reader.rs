@@ -2,23 +2,11 @@
 
 mod common;
 
-use common::FILL;
-#[cfg(feature = "product")]
-use fusion_bench::ffi::Product;
+use common::{agreed, implementations, FILL};
 use fusion_bench::generate::{document_sets, Rng};
 use fusion_bench::lists::{entries, largest_sets, layout, Entry};
-use fusion_bench::naive::Naive;
 use fusion_bench::reference::Reference;
-use fusion_bench::{Reader, ANSWER_WORDS, MAX_READ_WORDS, MAX_SET_WORDS, MAX_TABLE_WORDS};
-
-fn implementations() -> Vec<Box<dyn Reader>> {
-    vec![
-        Box::new(Reference::new()),
-        Box::new(Naive::default()),
-        #[cfg(feature = "product")]
-        Box::new(Product),
-    ]
-}
+use fusion_bench::{ANSWER_WORDS, MAX_READ_WORDS, MAX_SET_WORDS, MAX_TABLE_WORDS};
 
 /// Reads with every implementation and a buffer of `room` words; the words
 /// written. Every word behind them has to be as it was.
@@ -43,10 +31,7 @@ fn read_in(list: &[u32], rows: u32, room: usize) -> Result<Vec<u32>, u32> {
             Err(number)
         });
     }
-    for result in &results[1..] {
-        assert_eq!(result, &results[0]);
-    }
-    results.swap_remove(0)
+    agreed(results)
 }
 
 fn read(list: &[u32], rows: u32) -> Result<Vec<u32>, u32> {

@@ -8,9 +8,8 @@ use Prim.Native.Nat.{ℕ, ◌^◌, ◌<◌}
 use native.Mathlib.Omega.{arith}
 use lib.Dec.{eqb}
 use lib.ListN.{length, get_or}
-use borrow.Author.Tests.{eqb-true, eq-eqb}
 use Rattle.definitions.specs.Limits.{max_rows}
-use Rattle.definitions.specs.Lists.{any, find_index}
+use Rattle.definitions.specs.Lists.{find_index}
 use Rattle.definitions.specs.Word.{id_of}
 use Rattle.definitions.specs.Image.{image_ids, image_rows, image_of}
 use Rattle.definitions.specs.OuterUnion.{union_ids, union_columns, cell_in, widened, union_rows}
@@ -21,10 +20,9 @@ use Rattle.definitions.specs.Statements.{Member}
 use Rattle.definitions.specs.Claims.{Passed, Filled, WidenedOf}
 use Rattle.definitions.specs.NoneClaims.{StandsIn}
 use Rattle.definitions.specs.Promise.{UnionsKeepCells}
-use Rattle.definitions.proofs.Bools.{bool_cases, clash}
-use Rattle.definitions.proofs.Lists.{member-get, any_true, any_of, find_index_found, find_index_at}
+use Rattle.definitions.proofs.Lists.{member-get}
 use Rattle.definitions.proofs.Subsumption.{subsumes_keeps}
-use Rattle.definitions.proofs.Widened.{widened_at, cell_lacking}
+use Rattle.definitions.proofs.Widened.{cell_known, widened_has}
 use Rattle.definitions.proofs.Joined.{joined_some, members_are}
 use Rattle.definitions.proofs.Minimum.{minimum_is, every_row_stays}
 use Rattle.definitions.proofs.Counts.{fused_count, minimum_count}
@@ -39,15 +37,6 @@ use Rattle.definitions.proofs.Demand3.{every_row}
 abbrev RowsHave : List ℕ → List (List ℕ) → ℕ → ℕ → Type 0
 RowsHave ids rows id w = (row : List ℕ) × Member row rows × (cell_in ids row id ≡ w)
 
--- an id whose cell is filled in a row is one of the row's
-own_id : (ids row : List ℕ) (id w : ℕ) → length row ≡ length ids → Filled w → cell_in ids row id ≡ w → Member id ids
-own_id ids row id w size filled e =
-    bool_cases (any (eqb id) ids)
-    (λ q. let i = any_true (eqb id) ids q in subst (λ (x : ℕ). Member x ids) (sym (eqb-true id i.0 i.2)) i.1)
-    (λ q.
-    let lacking : Member id ids → ⊥ = λ m. clash (any_of (eqb id) id ids m (eq-eqb id id refl)) q in
-    absurd (filled (sym e ∙ cell_lacking [] ids row size id lacking)))
-
 module _ (a b : List ℕ) where
   abbrev ids : List ℕ
   ids = union_ids a b
@@ -58,14 +47,6 @@ module _ (a b : List ℕ) where
   abbrev T : List (List ℕ)
   T = union_rows a b
 
-  -- a widened row has in its own columns what it had
-  widened_has : (image row : List ℕ) (id : ℕ) → Member id ids → cell_in ids (widened ids (image_ids image) row) id ≡ cell_in (image_ids image) row id
-  widened_has image row id m =
-      let k = find_index (eqb id) ids in
-      let within = find_index_found (eqb id) id ids m (eq-eqb id id refl) in
-      let same = eqb-true id (get_or ids k 0) (find_index_at (eqb id) 0 ids within) in
-      widened_at ids (image_ids image) row k within ∙ ap (cell_in (image_ids image) row) (sym same)
-
   module _ (id w : ℕ) (filled : Filled w) where
     abbrev Given : Type 0
     Given = StandsIn a id w ⊎ StandsIn b id w
@@ -75,8 +56,8 @@ module _ (a b : List ℕ) where
     to_union : (image : List ℕ) → Passed max_rows image → (Member id (image_ids image) → Member id ids)
         → ((r : List ℕ) → WidenedOf a b image r → Member r T) → StandsIn image id w → RowsHave ids T id w
     to_union image p known row i =
-        let own = own_id (image_ids image) i.0 id w (passed_rows max_rows image p i.0 i.1 ∙ sym (passed_ids max_rows image p)) filled i.2 in
-        (widened ids (image_ids image) i.0, row _ (i.0, i.1, refl), widened_has image i.0 id (known own) ∙ i.2)
+        let own = cell_known [] (image_ids image) i.0 (passed_rows max_rows image p i.0 i.1 ∙ sym (passed_ids max_rows image p)) id w filled i.2 in
+        (widened ids (image_ids image) i.0, row _ (i.0, i.1, refl), widened_has ids (image_ids image) i.0 id (known own) ∙ i.2)
 
     in_union : Accepted a b → Given → RowsHave ids T id w
     in_union c =
@@ -86,9 +67,9 @@ module _ (a b : List ℕ) where
 
     from_union : RowsHave ids T id w → Given
     from_union i =
-        let m = own_id ids i.0 id w (rows_even a b i.0 i.1 ∙ columns_count a b) filled i.2 in
+        let m = cell_known [] ids i.0 (rows_even a b i.0 i.1 ∙ columns_count a b) id w filled i.2 in
         let back : (image : List ℕ) → WidenedOf a b image i.0 → StandsIn image id w =
-        λ image v. (v.0, v.1, sym (widened_has image v.0 id m) ∙ ap (λ (r : List ℕ). cell_in ids r id) (sym v.2) ∙ i.2) in
+        λ image v. (v.0, v.1, sym (widened_has ids (image_ids image) v.0 id m) ∙ ap (λ (r : List ℕ). cell_in ids r id) (sym v.2) ∙ i.2) in
         ⊎_elim (λ v. inl (back a v)) (λ v. inr (back b v)) ((rows_are a b i.0).0 i.1)
 
   -- ---- rows that keep the cells of T: they cover its rows, and each filled cell of theirs is one of its rows'

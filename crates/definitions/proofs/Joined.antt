@@ -173,6 +173,18 @@ module _ (rows : List (List ℕ)) (s : List Bool) (k : ℕ) where
   unfolding joined
   joined_empty = join_empty_is (members rows s) k
 
+-- in a column, the joined row of a complementing set has a filled word exactly if a member has it there
+module _ (columns : List ℕ) (rows : List (List ℕ)) (s : List Bool) (c : Complementing (complement_at columns rows) (length rows) s) where
+  pub joined_takes : (k w : ℕ) → Filled w → (get_or (joined rows s) k 0 ≡ w) ↔ ((r : List ℕ) × Member r (members rows s) × (get_or r k 0 ≡ w))
+  joined_takes k w filled = (
+    λ e. let i = joined_some rows s k (λ z. filled (sym e ∙ z)) in (i.0, i.1, sym i.2 ∙ e),
+    λ i.
+        let some : Filled (get_or (joined rows s) k 0) = λ z. filled (sym i.2 ∙ (joined_empty rows s k).0 z i.0 i.1) in
+        let j = joined_some rows s k some in
+        j.2 ∙ filled-agree (get_or j.0 k 0) (get_or i.0 k 0) (λ z. some (j.2 ∙ z)) (λ z. filled (sym i.2 ∙ z))
+        (agree_at j.0 i.0 (members-agree columns rows s c j.0 i.0 j.1 i.1) k) ∙ i.2,
+  )
+
 -- the joined row of a set that isn't empty is as long as the rows
 pub joined_length : (rows : List (List ℕ)) (n : ℕ) → ((r : List ℕ) → Member r rows → length r ≡ n) → (s : List Bool) → length s ≡ length rows
     → (k : ℕ) → Holds s k → length (joined rows s) ≡ n

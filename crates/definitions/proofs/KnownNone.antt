@@ -1,42 +1,41 @@
 -- Request A4: `none` is a cell, filled, after every number, equal to itself alone; rows share it, and a joined row takes it from a member;
 -- pages show it; and tables without it are as before. Assumes nothing.
-use mathlib.Core.Path.{◌≡◌, refl, sym, ◌∙◌, ap, ap₂, subst}
-use mathlib.Core.Bool.{Bool, true, false, not, ◌&&◌, ◌||◌}
+use mathlib.Core.Path.{◌≡◌, refl, sym, ◌∙◌, ap, subst}
+use mathlib.Core.Bool.{Bool, true, false, not, ◌||◌}
 use mathlib.Core.Logic.{◌⊎◌, ◌↔◌, inl, inr, ⊎_elim}
 use mathlib.Core.List.{List, [], ◌∷◌, ◌++◌}
-use Prim.Native.Nat.{ℕ, suc, ◌<◌}
+use Prim.Native.Nat.{ℕ, ◌<◌}
 use native.Mathlib.Omega.{arith}
 use lib.Dec.{eqb}
-use lib.ListN.{length, get_or, take, drop, length-map}
-use borrow.Author.Tests.{eqb-true, eq-eqb, ne_eqb}
+use lib.ListN.{length, get_or, take, length-map}
+use borrow.Author.Tests.{eqb-true, eq-eqb, ne_eqb, not-true}
 use Rattle.std.specs.declared.cmp.Ordering.TheVariants.{Less}
 use Rattle.std.proofs.lemmas.Bool.{or_cases, or_left, or_right}
 use Rattle.definitions.specs.Limits.{mark_words}
-use Rattle.definitions.specs.Lists.{all}
 use Rattle.definitions.specs.Word.{kind_of, none, is_filled, is_cell}
 use Rattle.definitions.specs.Image.{cell_words}
 use Rattle.definitions.specs.OuterUnion.{compare_word, compare_row, union_columns, union_rows}
 use Rattle.definitions.specs.MinimumUnion.{subsumes}
-use Rattle.definitions.specs.ComplementUnion.{agree, complement, complement_at, members, joined}
+use Rattle.definitions.specs.ComplementUnion.{agree, complement, members}
 use Rattle.definitions.specs.Questions.{cells_right}
-use Rattle.definitions.specs.Reading.{set_count, records_in, set_in}
+use Rattle.definitions.specs.Reading.{records_in, set_in}
 use Rattle.definitions.specs.Text.{cell_text}
 use Rattle.definitions.specs.Page.{flush_right, cell_width}
 use Rattle.definitions.specs.Statements.{Member}
-use Rattle.definitions.specs.Claims.{Filled, Counts, Complementing}
-use Rattle.definitions.specs.NoneClaims.{WithoutNone, cells_before, text_before, CellsAsBefore}
+use Rattle.definitions.specs.Claims.{Filled, Counts}
+use Rattle.definitions.specs.NoneClaims.{WithoutNone, cell_before, cells_before, text_before, CellsAsBefore}
 use Rattle.definitions.specs.Demand3.{listed_sets, Demand3, MeetsDemand3}
 use Rattle.definitions.specs.Promise.{JoinedRowsTake, NoneIsShown}
-use Rattle.definitions.proofs.Bools.{clash, or_none}
-use Rattle.definitions.proofs.Lists.{member-get, all_of, all_true}
+use Rattle.definitions.proofs.Bools.{or_none}
+use Rattle.definitions.proofs.Lists.{member-get, all_true, all_ext}
 use Rattle.definitions.proofs.Orders.{word_before, word_self}
 use Rattle.definitions.proofs.Rows.{filled_cell, agree_at}
 use Rattle.definitions.proofs.Subsumption.{subsumes_keeps}
 use Rattle.definitions.proofs.Complementing.{complement_is}
-use Rattle.definitions.proofs.Joined.{joined_some, joined_empty, members-agree, filled-agree}
+use Rattle.definitions.proofs.Joined.{joined_takes}
 use Rattle.definitions.proofs.Minimum.{minimum_is}
 use Rattle.definitions.proofs.Unions.{rows_rise}
-use Rattle.definitions.proofs.Images.{rows_length}
+use Rattle.definitions.proofs.Reading.{records_count}
 use Rattle.definitions.proofs.MaximalRows.{rows_maximal}
 use Rattle.definitions.proofs.Cells.{none_text}
 use Rattle.definitions.proofs.Pages.{no_cell_is_lost}
@@ -106,18 +105,6 @@ none_shared columns s t k counts h g agreeing different first second =
 
 -- ---- "a joined row takes it from a member as it takes a number"
 
--- in a column, the joined row of a complementing set has a filled word, `none` or a number, exactly if a member has it there
-module _ (columns : List ℕ) (rows : List (List ℕ)) (s : List Bool) (c : Complementing (complement_at columns rows) (length rows) s) where
-  pub joined_takes : (k w : ℕ) → Filled w → (get_or (joined rows s) k 0 ≡ w) ↔ ((r : List ℕ) × Member r (members rows s) × (get_or r k 0 ≡ w))
-  joined_takes k w filled = (
-    λ e. let i = joined_some rows s k (λ z. filled (sym e ∙ z)) in (i.0, i.1, sym i.2 ∙ e),
-    λ i.
-        let some : Filled (get_or (joined rows s) k 0) = λ z. filled (sym i.2 ∙ (joined_empty rows s k).0 z i.0 i.1) in
-        let j = joined_some rows s k some in
-        j.2 ∙ filled-agree (get_or j.0 k 0) (get_or i.0 k 0) (λ z. some (j.2 ∙ z)) (λ z. filled (sym i.2 ∙ z))
-        (agree_at j.0 i.0 (members-agree columns rows s c j.0 i.0 j.1 i.1) k) ∙ i.2,
-  )
-
 -- the fused row of a listed set, of a done call
 pub joined_rows_take : JoinedRowsTake
 unfolding MeetsDemand3
@@ -131,7 +118,7 @@ joined_rows_take a b table sets values table_after sets_after call k column w h 
       arith,
       h,
       length-map (records_in mark_words sets_after) (λ words. take (length T) (set_in mark_words words)),
-      rows_length (suc mark_words) (set_count sets_after) (drop 1 sets_after),
+      records_count mark_words sets_after,
     ) in
     let listed = (d.exactly s).0 (member-get [] (listed_sets T sets_after) k within) in
     let c = (rows_maximal columns T (rows_rise a b) s listed).complementing in
@@ -151,41 +138,24 @@ none_is_shown image p row column r c e =
 
 -- ---- tables without `none`
 
--- no other word is told otherwise than before
-cell_before : (w : ℕ) → (w ≡ none → ⊥) → is_cell w ≡ (eqb w 0 || eqb (kind_of w) 1)
-cell_before w h = or_none (eqb w 0 || eqb (kind_of w) 1) (eqb w none) (ne_eqb w none h)
-
-text_before_lem : (w : ℕ) → (w ≡ none → ⊥) → cell_text w ≡ text_before w
-unfolding cell_text
-text_before_lem w h = rw (ne_eqb w none h) refl
-
--- the test that `none` alone fails
-abbrev other : ℕ → Bool
-other w = not (eqb w none)
-
-others : (words : List ℕ) → WithoutNone words → all other words ≡ true
-others words h = all_of other words (λ w m. ap not (ne_eqb w none (h w m)))
-
-without : (words : List ℕ) → all other words ≡ true → WithoutNone words
-without words h w m e = clash (all_true other words h w m) (ap not (eq-eqb w none e))
-
 question_as_before : (image : List ℕ) → WithoutNone (cell_words image) → cells_right image ≡ cells_before image
-unfolding all
-question_as_before image h = each (cell_words image) h
-  where
-    each : (words : List ℕ) → WithoutNone words → all is_cell words ≡ all (λ w. eqb w 0 || eqb (kind_of w) 1) words
-    each [] g = refl
-    each (w ∷ words) g = ap₂ (λ (x y : Bool). x && y) (cell_before w (g w (inl refl))) (each words (λ x m. g x (inr m)))
+question_as_before image h =
+    all_ext is_cell cell_before (cell_words image)
+    (λ w m. or_none (cell_before w) (eqb w none) (not-true (eqb w none) (all_true (λ w. not (eqb w none)) (cell_words image) h w m)))
+
+text_as_before : (w : ℕ) → (w ≡ none → ⊥) → cell_text w ≡ text_before w
+unfolding cell_text
+text_as_before w h = rw (ne_eqb w none h) refl
 
 pub cells_as_before : (a b : List ℕ) → WithoutNone (cell_words a) → WithoutNone (cell_words b) → CellsAsBefore a b
 cells_as_before a b first second =
-    let union : (r : List ℕ) → Member r (union_rows a b) → all other r ≡ true =
-    union_cells other refl a b (others (cell_words a) first) (others (cell_words b) second) in
+    let other : ℕ → Bool = λ w. not (eqb w none) in
+    let union : (r : List ℕ) → Member r (union_rows a b) → WithoutNone r = union_cells other refl a b first second in
     record {
       first_cells = question_as_before a first;
       second_cells = question_as_before b second;
-      outer = λ r m. without r (union r m);
-      minimum = λ r m. without r (union r ((minimum_is (union_rows a b) r).0 m).0);
-      fused = λ r m. without r (fused_cells other (union_columns a b) (union_rows a b) union r m);
-      text = text_before_lem;
+      outer = union;
+      minimum = λ r m. union r ((minimum_is (union_rows a b) r).0 m).0;
+      fused = fused_cells other (union_columns a b) (union_rows a b) union;
+      text = text_as_before;
     }

@@ -47,6 +47,12 @@ module _ {A B : Type 0} where
 
 -- ---- every element, some element
 
+-- tests that agree on the elements
+pub all_ext : {A : Type 0} (p q : A → Bool) (l : List A) → ((x : A) → Member x l → p x ≡ q x) → all p l ≡ all q l
+unfolding all
+all_ext p q [] h = refl
+all_ext p q (x ∷ l) h = ap₂ (λ (b c : Bool). b && c) (h x (inl refl)) (all_ext p q l (λ y k. h y (inr k)))
+
 module _ {A : Type 0} (p : A → Bool) where
   pub all_true : (l : List A) → all p l ≡ true → (x : A) → Member x l → p x ≡ true
   unfolding all

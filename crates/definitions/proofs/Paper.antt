@@ -69,6 +69,10 @@ alone = (● ∷ ○ ∷ ○ ∷ []) ∷ (○ ∷ ● ∷ ○ ∷ []) ∷ (○ �
 abbrev with_address : List (List Bool)
 with_address = (● ∷ ● ∷ ○ ∷ []) ∷ (● ∷ ○ ∷ ● ∷ []) ∷ []
 
+-- request A4: two rows that share `none`
+abbrev none_shared : List (List ℕ)
+none_shared = (∄ ∷ ∅ ∷ # 3 ∷ []) ∷ (∄ ∷ # 2 ∷ ∅ ∷ []) ∷ []
+
 -- what is expected of two rows s and t
 record Verdicts : Type 0 where
   equal : Bool
@@ -79,6 +83,34 @@ record Verdicts : Type 0 where
   -- t subsumes s
   subsumed : Bool
   complementing : Bool
+
+-- rows of which neither tells of the other; that complement each other; of which s subsumes t and shares nothing with it
+abbrev unrelated : Verdicts
+unrelated = record {
+  equal = ○;
+  sharing = ○;
+  subsuming = ○;
+  subsumed = ○;
+  complementing = ○;
+}
+
+abbrev complementary : Verdicts
+complementary = record {
+  equal = ○;
+  sharing = ●;
+  subsuming = ○;
+  subsumed = ○;
+  complementing = ●;
+}
+
+abbrev subsuming_alone : Verdicts
+subsuming_alone = record {
+  equal = ○;
+  sharing = ○;
+  subsuming = ●;
+  subsumed = ○;
+  complementing = ○;
+}
 
 -- two images, and what is expected of them
 record Case : Type 0 where
@@ -158,15 +190,7 @@ cases =
       sets = (● ∷ ○ ∷ []) ∷ (○ ∷ ● ∷ []) ∷ [];
       joined_rows = (∅ ∷ ∅ ∷ # 3 ∷ []) ∷ (# 1 ∷ # 2 ∷ ∅ ∷ []) ∷ [];
       fused = (∅ ∷ ∅ ∷ # 3 ∷ []) ∷ (# 1 ∷ # 2 ∷ ∅ ∷ []) ∷ [];
-      pair =
-          some
-          (record {
-            equal = ○;
-            sharing = ○;
-            subsuming = ○;
-            subsumed = ○;
-            complementing = ○;
-          });
+      pair = some unrelated;
       again = none;
     }
     -- P5: (1,2,-) and (1,-,3) complement; joined (1,2,3)
@@ -179,15 +203,7 @@ cases =
       sets = (● ∷ ● ∷ []) ∷ [];
       joined_rows = (# 1 ∷ # 2 ∷ # 3 ∷ []) ∷ [];
       fused = (# 1 ∷ # 2 ∷ # 3 ∷ []) ∷ [];
-      pair =
-          some
-          (record {
-            equal = ○;
-            sharing = ●;
-            subsuming = ○;
-            subsumed = ○;
-            complementing = ●;
-          });
+      pair = some complementary;
       again = none;
     }
     -- P6: (0,-) and (-,-) differ; the first subsumes
@@ -200,15 +216,7 @@ cases =
       sets = (● ∷ ○ ∷ []) ∷ (○ ∷ ● ∷ []) ∷ [];
       joined_rows = (∅ ∷ ∅ ∷ []) ∷ (# 0 ∷ ∅ ∷ []) ∷ [];
       fused = (∅ ∷ ∅ ∷ []) ∷ (# 0 ∷ ∅ ∷ []) ∷ [];
-      pair =
-          some
-          (record {
-            equal = ○;
-            sharing = ○;
-            subsuming = ●;
-            subsumed = ○;
-            complementing = ○;
-          });
+      pair = some subsuming_alone;
       again = none;
     }
     -- P7: (1,2,-,-), (-,2,3,-), (-,-,3,4), (1,-,-,4): four sets, of two rows each.
@@ -355,20 +363,12 @@ cases =
       first = image_of three ((∄ ∷ # 2 ∷ ∅ ∷ []) ∷ []);
       second = image_of three ((∄ ∷ ∅ ∷ # 3 ∷ []) ∷ []);
       columns = three;
-      union = (∄ ∷ ∅ ∷ # 3 ∷ []) ∷ (∄ ∷ # 2 ∷ ∅ ∷ []) ∷ [];
-      minimum = (∄ ∷ ∅ ∷ # 3 ∷ []) ∷ (∄ ∷ # 2 ∷ ∅ ∷ []) ∷ [];
+      union = none_shared;
+      minimum = none_shared;
       sets = (● ∷ ● ∷ []) ∷ [];
       joined_rows = (∄ ∷ # 2 ∷ # 3 ∷ []) ∷ [];
       fused = (∄ ∷ # 2 ∷ # 3 ∷ []) ∷ [];
-      pair =
-          some
-          (record {
-            equal = ○;
-            sharing = ●;
-            subsuming = ○;
-            subsumed = ○;
-            complementing = ●;
-          });
+      pair = some complementary;
       again = none;
     }
     -- a joined row takes it from the one member that has it
@@ -394,15 +394,7 @@ cases =
       sets = (● ∷ ● ∷ ○ ∷ []) ∷ (● ∷ ○ ∷ ● ∷ []) ∷ [];
       joined_rows = (# 0 ∷ # 2 ∷ # 3 ∷ []) ∷ (∄ ∷ # 2 ∷ # 3 ∷ []) ∷ [];
       fused = (# 0 ∷ # 2 ∷ # 3 ∷ []) ∷ (∄ ∷ # 2 ∷ # 3 ∷ []) ∷ [];
-      pair =
-          some
-          (record {
-            equal = ○;
-            sharing = ○;
-            subsuming = ○;
-            subsumed = ○;
-            complementing = ○;
-          });
+      pair = some unrelated;
       again = none;
     }
     -- (none,-) subsumes (-,-), and neither subsumes nor is (0,-)
@@ -415,15 +407,7 @@ cases =
       sets = alone;
       joined_rows = (∅ ∷ ∅ ∷ []) ∷ (# 0 ∷ ∅ ∷ []) ∷ (∄ ∷ ∅ ∷ []) ∷ [];
       fused = (∅ ∷ ∅ ∷ []) ∷ (# 0 ∷ ∅ ∷ []) ∷ (∄ ∷ ∅ ∷ []) ∷ [];
-      pair =
-          some
-          (record {
-            equal = ○;
-            sharing = ○;
-            subsuming = ●;
-            subsumed = ○;
-            complementing = ○;
-          });
+      pair = some subsuming_alone;
       again = none;
     }
     -- it stands behind the largest number, and isn't that
@@ -444,8 +428,8 @@ cases =
       first = image_of (marked 7 ∷ column 8 ∷ column 9 ∷ []) ((∄ ∷ # 2 ∷ ∅ ∷ []) ∷ []);
       second = image_of three ((∄ ∷ ∅ ∷ # 3 ∷ []) ∷ []);
       columns = marked 7 ∷ column 8 ∷ column 9 ∷ [];
-      union = (∄ ∷ ∅ ∷ # 3 ∷ []) ∷ (∄ ∷ # 2 ∷ ∅ ∷ []) ∷ [];
-      minimum = (∄ ∷ ∅ ∷ # 3 ∷ []) ∷ (∄ ∷ # 2 ∷ ∅ ∷ []) ∷ [];
+      union = none_shared;
+      minimum = none_shared;
       sets = (● ∷ ● ∷ []) ∷ [];
       joined_rows = (∄ ∷ # 2 ∷ # 3 ∷ []) ∷ [];
       fused = (∄ ∷ # 2 ∷ # 3 ∷ []) ∷ [];
@@ -457,11 +441,11 @@ cases =
       first = image_of (column 7 ∷ marked 8 ∷ column 9 ∷ []) ((∄ ∷ # 2 ∷ ∅ ∷ []) ∷ []);
       second = image_of three ((∄ ∷ ∅ ∷ # 3 ∷ []) ∷ []);
       columns = column 7 ∷ marked 8 ∷ column 9 ∷ [];
-      union = (∄ ∷ ∅ ∷ # 3 ∷ []) ∷ (∄ ∷ # 2 ∷ ∅ ∷ []) ∷ [];
-      minimum = (∄ ∷ ∅ ∷ # 3 ∷ []) ∷ (∄ ∷ # 2 ∷ ∅ ∷ []) ∷ [];
+      union = none_shared;
+      minimum = none_shared;
       sets = (● ∷ ○ ∷ []) ∷ (○ ∷ ● ∷ []) ∷ [];
-      joined_rows = (∄ ∷ ∅ ∷ # 3 ∷ []) ∷ (∄ ∷ # 2 ∷ ∅ ∷ []) ∷ [];
-      fused = (∄ ∷ ∅ ∷ # 3 ∷ []) ∷ (∄ ∷ # 2 ∷ ∅ ∷ []) ∷ [];
+      joined_rows = none_shared;
+      fused = none_shared;
       pair = none;
       again = none;
     }

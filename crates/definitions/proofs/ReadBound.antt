@@ -9,7 +9,8 @@ use Rattle.definitions.specs.ReadBack.{read_record, read_words}
 use Rattle.definitions.specs.Claims.{AcceptedList}
 use Rattle.definitions.proofs.Positions.{positions_few}
 use Rattle.definitions.proofs.ListChecks.{ValidRecord}
-use Rattle.definitions.proofs.WrittenAgain.{records_count, accepted_form, accepted_valid}
+use Rattle.definitions.proofs.WrittenAgain.{accepted_form, accepted_valid}
+use Rattle.definitions.proofs.Reading.{records_count}
 use Rattle.definitions.proofs.Lines.{at_most_map, flatten_bound}
 
 -- of a record: the number of its members, a word for each, at most one a row, and the joined row's position
@@ -28,4 +29,4 @@ read_words_bound {rows} {list} c =
     (at_most_map (max_union_rows + 2) (read_record mark_words) records
     (λ words h. omega (arith, l.few_rows, entry_bound mark_words rows words (accepted_valid c words h)))) in
     let size = length-map records (read_record mark_words) in
-    omega (arith, l.few_sets, records_count mark_words rows list l)
+    omega (arith, l.few_sets, records_count mark_words list)

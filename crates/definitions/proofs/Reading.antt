@@ -20,7 +20,12 @@ use Rattle.definitions.proofs.Lists.{map-member, member-get}
 use Rattle.definitions.proofs.Sets.{listed_is}
 use Rattle.definitions.proofs.Counts.{set_record-length, fused_count}
 use Rattle.definitions.proofs.SetWords.{mark_bit, row_word, fused_position_within}
-use Rattle.definitions.proofs.Images.{header_rows, rows_read}
+use Rattle.definitions.proofs.Images.{header_rows, rows_read, rows_length}
+
+-- ---- the records of any list
+
+pub records_count : (m : ℕ) (list : List ℕ) → length (records_in m list) ≡ set_count list
+records_count m list = rows_length (suc m) (set_count list) (drop 1 list)
 
 -- ---- the marks of a record
 

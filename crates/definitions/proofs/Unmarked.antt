@@ -1,26 +1,28 @@
 -- Request A2, "if none is, any column counts as before": two tables without a marked column get what they got before it.
 -- Assumes nothing.
-use mathlib.Core.Path.{◌≡◌, refl, sym, ◌∙◌, ap, ap₂}
-use mathlib.Core.Bool.{Bool, false, ◌&&◌, ◌||◌}
-use mathlib.Core.List.{List, [], ◌∷◌, map}
+use mathlib.Core.Path.{◌≡◌, refl, sym, ◌∙◌, ap}
+use mathlib.Core.Bool.{Bool, false, ◌&&◌}
+use mathlib.Core.List.{List, []}
 use Prim.Native.Nat.{ℕ, ◌/◌, ◌%◌, ◌^◌}
 use native.Mathlib.Nat.{zero-add, div-div-eq-div-mul}
 use native.Mathlib.Omega.{arith}
 use lib.Dec.{eqb}
 use lib.ListN.{length, get_or}
 use borrow.Author.Tests.{eqb-true, eqb-false, eq-eqb}
-use Rattle.definitions.specs.Lists.{all, any}
+use Rattle.definitions.specs.Lists.{any}
 use Rattle.definitions.specs.Word.{kind_of, id_of, mark_of, word_of, column_spare, column_word}
 use Rattle.definitions.specs.Image.{column_words, image_of, is_column}
-use Rattle.definitions.specs.OuterUnion.{union_ids, marks, union_columns, union_rows}
+use Rattle.definitions.specs.OuterUnion.{union_ids, marks, union_column, union_columns, union_rows}
 use Rattle.definitions.specs.MinimumUnion.{minimum_rows}
 use Rattle.definitions.specs.ComplementUnion.{counted_cells, complement, complement_at, union_sets}
 use Rattle.definitions.specs.SetList.{set_list}
 use Rattle.definitions.specs.Questions.{columns_right}
+use Rattle.definitions.specs.Statements.{Member}
 use Rattle.definitions.specs.Calls.{pair_outcome, outer_image, minimum_image, fused_table, fused_image, sets_outcome, complement_outcome}
 use Rattle.definitions.specs.Unmarked.{Unmarked, columns_before, words_before, complement_before, sets_before, AsBefore}
-use Rattle.std.proofs.lemmas.Bool.{and_right, or_from, or_parts}
+use Rattle.std.proofs.lemmas.Bool.{and_right, or_from}
 use Rattle.definitions.proofs.Bools.{bool_eq}
+use Rattle.definitions.proofs.Lists.{map_ext, all_ext, any_false, any_none}
 use Rattle.definitions.proofs.Sets.{listed_ext}
 use Rattle.definitions.proofs.UnionColumns.{any_marked}
 
@@ -43,26 +45,18 @@ spare_before w e =
     lower x z = omega arith
 
 module _ (image : List ℕ) (none : Unmarked image) where
+  unmarked : (w : ℕ) → Member w (column_words image) → mark_of w ≡ false
+  unmarked = any_false mark_of (column_words image) none
+
   question_before : columns_right image ≡ columns_before image
-  unfolding all any
-  question_before = each (column_words image) none
-    where
-      each : (words : List ℕ) → any mark_of words ≡ false → all is_column words ≡ all (λ w. eqb (kind_of w) 2 && eqb (w / 2 ^ 16 % 2 ^ 14) 0) words
-      each [] e = refl
-      each (w ∷ words) e =
-          ap₂ (λ (x y : Bool). (eqb (kind_of w) 2 && x) && y)
-          (spare_before w (or_parts (mark_of w) (any mark_of words) e).0) (each words (or_parts (mark_of w) (any mark_of words) e).1)
+  question_before =
+      all_ext is_column (λ w. eqb (kind_of w) 2 && eqb (w / 2 ^ 16 % 2 ^ 14) 0) (column_words image)
+      (λ w m. ap (λ (x : Bool). eqb (kind_of w) 2 && x) (spare_before w (unmarked w m)))
 
   -- no column is marked, whatever its id
   marks_none : (id : ℕ) → marks (column_words image) id ≡ false
-  unfolding any
-  marks_none id = each (column_words image) none
-    where
-      each : (words : List ℕ) → any mark_of words ≡ false → marks words id ≡ false
-      each [] e = refl
-      each (w ∷ words) e =
-          or_from _ _ (and_right (eqb id (id_of w)) (mark_of w) (or_parts (mark_of w) (any mark_of words) e).0)
-          (each words (or_parts (mark_of w) (any mark_of words) e).1)
+  marks_none id =
+      any_none (λ w. eqb id (id_of w) && mark_of w) (column_words image) (λ w m. and_right (eqb id (id_of w)) (mark_of w) (unmarked w m))
 
 -- ---- condition (3)
 
@@ -76,13 +70,9 @@ unmarked_condition columns none s t = rw none refl
 module _ (a b : List ℕ) (first : Unmarked a) (second : Unmarked b) where
   columns_before_lem : union_columns a b ≡ words_before a b
   unfolding union_columns
-  columns_before_lem = each (union_ids a b)
-    where
-      each : (ids : List ℕ) → map (λ id. column_word id (marks (column_words a) id || marks (column_words b) id)) ids ≡ map (word_of 2) ids
-      each [] = refl
-      each (id ∷ ids) =
-          ap₂ (λ (w : ℕ) (l : List ℕ). w ∷ l)
-          (ap (column_word id) (or_from _ _ (marks_none a first id) (marks_none b second id)) ∙ ap (word_of 2) (zero-add id)) (each ids)
+  columns_before_lem =
+      map_ext (union_column (column_words a) (column_words b)) (word_of 2) (union_ids a b)
+      (λ id m. ap (column_word id) (or_from _ _ (marks_none a first id) (marks_none b second id)) ∙ ap (word_of 2) (zero-add id))
 
   words_unmarked : any mark_of (words_before a b) ≡ false
   words_unmarked = ap (any mark_of) (sym columns_before_lem) ∙ any_marked a b ∙ or_from _ _ first second

@@ -20,8 +20,8 @@ use Rattle.definitions.specs.Claims.{AcceptedList}
 use Rattle.definitions.specs.Promise.{WrittenAgain}
 use Rattle.std.proofs.lemmas.Bool.{and_parts}
 use Rattle.definitions.proofs.Lists.{map_ext, all_true, all_of}
-use Rattle.definitions.proofs.Images.{words_rows, rows_length, rows_wide}
-use Rattle.definitions.proofs.Reading.{marks_count}
+use Rattle.definitions.proofs.Images.{words_rows, rows_wide}
+use Rattle.definitions.proofs.Reading.{marks_count, records_count}
 use Rattle.definitions.proofs.MarkBits.{marks_again}
 use Rattle.definitions.proofs.Positions.{set_again}
 use Rattle.definitions.proofs.ListChecks.{WellFormed, well_formed_is, form_more, ValidRecord, valid_is, valid_more}
@@ -105,16 +105,13 @@ module _ (m rows : ℕ) (list : List ℕ) (l : WellFormed m rows list) where
   past_header : length (drop 1 list) ≡ set_count list * suc m
   past_header = length-drop 1 list ∙ omega (arith, l.all_words, mul_comm (suc m) (set_count list))
 
-  pub records_count : length (records_in m list) ≡ set_count list
-  records_count = rows_length (suc m) (set_count list) (drop 1 list)
-
   pub records_long : (words : List ℕ) → Member words (records_in m list) → length words ≡ suc m
   records_long = rows_wide (suc m) (set_count list) (drop 1 list) (omega (arith, past_header))
 
   form_again : list_of m (records_in m list) ≡ list
   unfolding list_of
   form_again =
-      ap₂ (λ (k : ℕ) (w : List ℕ). header_word k (suc m) ∷ w) records_count
+      ap₂ (λ (k : ℕ) (w : List ℕ). header_word k (suc m) ∷ w) (records_count m list)
       (words_rows (suc m) (set_count list) (drop 1 list)
       ∙ take_all (set_count list * suc m) (drop 1 list) (omega (arith, past_header)))
       ∙ ap (λ (k : ℕ). k ∷ drop 1 list) header_again
@@ -124,7 +121,7 @@ module _ (m rows : ℕ) (list : List ℕ) (l : WellFormed m rows list) where
   pub entries_told : entries_of (set_count list) (read_words m list) ≡ map (entry_in m) (records_in m list)
   unfolding read_words
   entries_told =
-      ap₂ entries_of (sym records_count ∙ sym (length-map (records_in m list) (entry_in m)))
+      ap₂ entries_of (sym (records_count m list) ∙ sym (length-map (records_in m list) (entry_in m)))
       (ap flatten (sym (map-map entry_words (entry_in m) (records_in m list))))
       ∙ entries_again (map (entry_in m) (records_in m list))
 

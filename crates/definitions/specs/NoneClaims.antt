@@ -1,5 +1,5 @@
 -- Request A4: the terms in which its claims are stated, and what it leaves as it was for tables without `none`.
-use Rattle.std.specs.Prelude.{◌≡◌, Bool, ◌||◌, List, ℕ, ◌%◌, ◌^◌, cond, eqb}
+use Rattle.std.specs.Prelude.{◌≡◌, Bool, true, not, ◌||◌, List, ℕ, ◌%◌, ◌^◌, cond, eqb}
 use Rattle.definitions.specs.Lists.{all}
 use Rattle.definitions.specs.Word.{kind_of, is_filled, none}
 use Rattle.definitions.specs.Image.{cell_words, image_ids, image_rows}
@@ -18,11 +18,14 @@ StandsIn image id w = (row : List ℕ) × Member row (image_rows image) × (cell
 
 -- no word of the list is `none`
 abbrev pub WithoutNone : List ℕ → Type 0
-WithoutNone words = (w : ℕ) → Member w words → w ≡ none → ⊥
+WithoutNone words = all (λ w. not (eqb w none)) words ≡ true
 
 -- document 01's question 7: "Is every cell either zero or of kind 1?"
+abbrev pub cell_before : ℕ → Bool
+cell_before w = eqb w 0 || eqb (kind_of w) 1
+
 abbrev pub cells_before : List ℕ → Bool
-cells_before image = all (λ w. eqb w 0 || eqb (kind_of w) 1) (cell_words image)
+cells_before image = all cell_before (cell_words image)
 
 -- document 01's text of a cell: `-` is empty
 abbrev pub text_before : ℕ → List ℕ

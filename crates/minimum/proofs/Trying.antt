@@ -1,8 +1,7 @@
 -- The trying of row k of a table: what a column more says of covering, what a candidate more says of subsuming, and what is found.
 -- Assumes nothing.
-use mathlib.Core.Path.{◌≡◌, sym, ◌∙◌, ap, ap₂}
+use mathlib.Core.Path.{◌≡◌, refl, sym, ◌∙◌, ap, ap₂}
 use mathlib.Core.Bool.{Bool, true, false, not, ◌&&◌, ◌||◌}
-use mathlib.Core.Logic.{⊎_elim}
 use mathlib.Core.List.{List, []}
 use Prim.Native.Nat.{ℕ, ◌+◌, ◌-◌, ◌<◌, ◌≤◌}
 use native.Mathlib.Omega.{arith}
@@ -17,8 +16,8 @@ use Rattle.definitions.specs.Word.{is_filled}
 use Rattle.definitions.specs.MinimumUnion.{filled, covers, subsumes}
 use Rattle.std.proofs.lemmas.Bool.{false_from_ne_true}
 use Rattle.definitions.proofs.Bools.{clash}
-use Rattle.definitions.proofs.Rows.{filled_cell, covers_at}
-use Rattle.definitions.proofs.Subsumption.{subsumes_is, filled-empties}
+use Rattle.definitions.proofs.Rows.{filled_cell}
+use Rattle.definitions.proofs.Subsumption.{subsumes_is, subsumes_keeps, filled-empties}
 use Rattle.lists.proofs.Flat.{rows_at_lem}
 use Rattle.bitsets.specs.Bits.{has, without_lowest, word_bits}
 use Rattle.bitsets.proofs.Bits.{Lowest, trailing_lowest, has_none, rest_in, rest_of}
@@ -85,10 +84,8 @@ module _ (t : Trials) where
               let c_in : c < t.rows.width = omega (arith, row_long k own) in
               ap (λ (x : ℕ). has x i) (t.prepared.filled_rows.words c c_in)
               ∙ filled-has (rows_of t.rows) c i (omega (arith, rows_many))
-              ∙ ⊎_elim
-              (λ q. absurd (filled_cell (get_or (at k) c 0) some q))
-              (λ q. ap is_filled q ∙ some)
-              (covers_at (at i) (at k) s.1 c));
+              ∙ ap is_filled (subsumes_keeps (at i) (at k) c (get_or (at k) c 0) (filled_cell (get_or (at k) c 0) some) e refl)
+              ∙ some);
         }
 
     -- the lowest of the rest is tried
