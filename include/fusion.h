@@ -121,7 +121,9 @@ uint32_t fusion_outer_union(const uint32_t *first, size_t first_len,
 /*
  * Minimum union. Writes T without the rows that another row of T subsumes,
  * ascending, as an image into table. The answer's word 5 is the number of
- * pairs of rows tried.
+ * pairs of rows tried. An image that it wrote can be a table of a further call
+ * if it has at most 32 rows. Three tables get the same words in either
+ * grouping, if all four unions are accepted.
  *
  * Refusals: 1 to 8, 10.
  */

@@ -1,6 +1,7 @@
-//! Seeded generator of inputs: pairs of images and buffers.
+//! Seeded generator of inputs: pairs of images, three images, and buffers.
 
 use crate::{MAX_COLUMNS, MAX_SOURCE_ROWS};
+use std::collections::{BTreeMap, BTreeSet};
 
 const HEADER: u32 = 3 << 30;
 const COLUMN: u32 = 2 << 30;
@@ -993,6 +994,87 @@ pub fn any_pair(rng: &mut Rng) -> Pair {
             };
             damage(rng, image, number, &OVER);
         }
+    }
+    made
+}
+
+/// Three images and the kind of input they were made as.
+#[derive(Clone)]
+pub struct Triple {
+    pub kind: &'static str,
+    pub images: [Vec<u32>; 3],
+}
+
+/// A third table for a sound pair. Its rows are rows of the pair with cells
+/// left out, and with cells of their columns' other rows: they often equal a
+/// row of the pair, or one of the two subsumes the other.
+fn third(rng: &mut Rng, pair: &Pair) -> Vec<u32> {
+    let mut rows: Vec<BTreeMap<u32, u32>> = Vec::new();
+    let mut ids = BTreeSet::new();
+    for image in [&pair.first, &pair.second] {
+        let table = Table::from_image(image);
+        ids.extend(&table.ids);
+        let by_id = |row: Vec<u32>| table.ids.iter().copied().zip(row).collect();
+        rows.extend(table.rows.into_iter().map(by_id));
+    }
+    // At times a column that neither has.
+    if rng.chance(1, 4) {
+        let id = rng.word() & IDS;
+        if ids.insert(id) {
+            for row in &mut rows {
+                row.insert(id, *rng.pick(&[0, cell(1)]));
+            }
+        }
+    }
+    let mut ids: Vec<u32> = ids.into_iter().collect();
+    rng.shuffle(&mut ids);
+    ids.truncate(rng.between(1, ids.len().min(MAX_COLUMNS)));
+
+    let limit = *rng.pick(&[2, 8, 16, MAX_SOURCE_ROWS]);
+    let count = if rows.is_empty() {
+        0
+    } else {
+        rng.below(limit + 1)
+    };
+    let (kept, foreign) = (rng.between(4, 8), rng.below(4));
+    let mut row = || {
+        let row = rng.pick(&rows);
+        let word = |id| {
+            let from = if rng.chance(foreign, 16) {
+                rng.pick(&rows)
+            } else {
+                row
+            };
+            match from.get(id) {
+                Some(&word) if rng.chance(kept, 8) => word,
+                _ => 0,
+            }
+        };
+        ids.iter().map(word).collect()
+    };
+    let rows = (0..count).map(|_| row()).collect();
+    let mut image = Table { ids, rows }.image();
+    if rng.chance(1, 3) {
+        let part = *rng.pick(&[1, 4, 8]);
+        mark_some(rng, &mut image, part);
+    }
+    image
+}
+
+/// Three images in any order, two of them a sound pair and the third made of
+/// it; in an eighth of the cases one is damaged.
+pub fn any_triple(rng: &mut Rng) -> Triple {
+    let pair = sound(rng);
+    let third = third(rng, &pair);
+    let mut made = Triple {
+        kind: pair.kind,
+        images: [pair.first, pair.second, third],
+    };
+    rng.shuffle(&mut made.images);
+    if rng.chance(1, 8) {
+        let (place, number) = (rng.below(3), rng.between(1, 7));
+        made.kind = "three, one damage";
+        damage(rng, &mut made.images[place], number, &OVER);
     }
     made
 }

@@ -13,6 +13,10 @@
 //! Each case also asks for a page of a generated table, sound in most of the
 //! cases, or of complement union's, and now and then for all pages of a table:
 //! read back, these have to be the table.
+//! Each case also makes the minimum union of three generated images in either
+//! grouping, where the words written by one call go into the next: if all four
+//! calls are done, both groupings have to give the same, pairs tried excepted,
+//! and the result with itself has to be that result.
 //!
 //! At the first difference it prints the whole input as hexadecimal words and
 //! bytes and exits with status 1. At the end it prints one line with the number
@@ -21,17 +25,20 @@
 //! sets without their marks, and in how many of those some rows still
 //! complement; how many had a union with none in it, how many of these would
 //! have another number of sets with empty cells or with number 0 in its place;
-//! and how many pages show none.
+//! how many pages show none; and of the three images how often all four calls
+//! were done, in how many of these the first one left out a row, in how many
+//! the groupings tried other numbers of pairs, how often a result with itself
+//! was done, and how often the first result had too many rows for the next call.
 
 #[cfg(feature = "product")]
 use fusion_bench::ffi::Product;
-use fusion_bench::generate::{self, Pair, Rng, Table};
+use fusion_bench::generate::{self, Pair, Rng, Table, Triple};
 use fusion_bench::lists::{self, Entry, List};
 use fusion_bench::naive::{Naive, SUBSET_ROWS};
 use fusion_bench::pages;
 use fusion_bench::reference::Reference;
 use fusion_bench::stored::{self, Stored};
-use fusion_bench::{Answer, Call, Pager, Reader, Unions, ANSWER_WORDS};
+use fusion_bench::{Answer, Call, Pager, Reader, Unions, ANSWER_WORDS, MAX_SOURCE_ROWS};
 use fusion_bench::{MAX_READ_WORDS, MAX_SET_WORDS, MAX_TABLE_WORDS, PAGE_BYTES};
 use fusion_bench::{PAGE_NAME, READ_NAME};
 use std::collections::BTreeMap;
@@ -83,6 +90,15 @@ struct State {
 }
 
 impl State {
+    fn new(rng: &mut Rng, table: usize, sets: usize, answer: usize) -> State {
+        State {
+            number: !0,
+            table: Lent::words(rng, table),
+            sets: Lent::words(rng, sets),
+            answer: Lent::words(rng, answer),
+        }
+    }
+
     fn run(&mut self, unions: &mut dyn Unions, call: Call, first: &[u32], second: &[u32]) {
         self.number = unions.run(
             call,
@@ -196,6 +212,26 @@ struct Differential {
     made_tables: u64,
     most_pages: u32,
     whole_tables: u64,
+    /// Three images; of these the ones with all four minimum unions done; of
+    /// those the ones in which the first one left out a row, in which the
+    /// groupings tried other numbers of pairs, and whose result with itself was
+    /// done.
+    triples: u64,
+    grouped: u64,
+    left_out_early: u64,
+    other_pairs: u64,
+    with_itself: u64,
+    /// Three images of which the first two have too many rows for the next call.
+    no_input: u64,
+}
+
+/// A minimum union that is done: its answer and the words written.
+type Done = (Answer, Vec<u32>);
+
+/// Whether two minimum unions gave the same, pairs tried excepted.
+fn same(one: &Done, other: &Done) -> bool {
+    let counts = |answer: &Answer| (answer.rows, answer.words, answer.filled);
+    counts(&one.0) == counts(&other.0) && one.1 == other.1
 }
 
 /// Prints words or bytes, each with all its digits.
@@ -372,6 +408,12 @@ impl Differential {
             made_tables: 0,
             most_pages: 0,
             whole_tables: 0,
+            triples: 0,
+            grouped: 0,
+            left_out_early: 0,
+            other_pairs: 0,
+            with_itself: 0,
+            no_input: 0,
         }
     }
 
@@ -601,6 +643,73 @@ impl Differential {
         }
     }
 
+    /// Runs minimum union on two of a triple's images, or on what such a call
+    /// wrote, with all implementations and a buffer that is long enough.
+    fn minimum(
+        &mut self,
+        rng: &mut Rng,
+        place: Place,
+        kind: &'static str,
+        [first, second]: [&[u32]; 2],
+    ) -> Option<Done> {
+        let pair = Pair {
+            kind,
+            first: first.to_vec(),
+            second: second.to_vec(),
+        };
+        let full = self.full_answer(Call::Minimum, &pair);
+        let (table, sets) = (full.words as usize + rng.below(4), rng.below(4));
+        let before = State::new(rng, table, sets, ANSWER_WORDS);
+        let input = Input {
+            place,
+            call: Call::Minimum,
+            pair: &pair,
+            before: &before,
+        };
+        let mut after = self.compare_call(&input, rng.chance(1, 8));
+        let written = &after.table.part()[..full.words as usize];
+        (full.number == 0).then(|| (full, written.to_vec()))
+    }
+
+    /// Unites three images in either grouping, and the result with itself.
+    fn triple_case(&mut self, rng: &mut Rng, place: Place) {
+        let Triple { kind, images } = generate::any_triple(rng);
+        let [x, y, z] = images.each_ref().map(Vec::as_slice);
+        let mut unite = |first, second| self.minimum(rng, place, kind, [first, second]);
+        let (xy, yz) = (unite(x, y), unite(y, z));
+        let left = xy.as_ref().and_then(|(_, xy)| unite(xy, z));
+        let right = yz.as_ref().and_then(|(_, yz)| unite(x, yz));
+        self.triples += 1;
+        let rows = xy.map_or(0, |(answer, _)| answer.rows);
+        self.no_input += u64::from(rows > MAX_SOURCE_ROWS as u32);
+        let (Some(left), Some(right)) = (left, right) else {
+            return;
+        };
+        let again = self.minimum(rng, place, kind, [&left.1, &left.1]);
+        self.grouped += 1;
+        let all_rows = self.reference.outer_union(x, y, &mut self.table).rows;
+        self.left_out_early += u64::from(rows < all_rows);
+        self.other_pairs += u64::from(left.0.pairs != right.0.pairs);
+        self.with_itself += u64::from(again.is_some());
+
+        let stays = match &again {
+            Some(again) => same(again, &left),
+            None => left.0.rows > MAX_SOURCE_ROWS as u32,
+        };
+        if !same(&left, &right) || !stays {
+            let name = "either grouping, or the result with itself";
+            place.title(name, Call::Minimum.name(), kind);
+            print_all("first", x);
+            print_all("second", y);
+            print_all("third", z);
+            print_all("first two and third", &left.1);
+            print_all("first and last two ", &right.1);
+            let again = again.map_or(Vec::new(), |(_, words)| words);
+            print_all("result with itself ", &again);
+            place.again();
+        }
+    }
+
     fn case(&mut self, seed: u64, case: u64) {
         let mut rng = Rng::for_case(seed, case);
         let place = Place { seed, case };
@@ -613,12 +722,7 @@ impl Differential {
             let table = generate::buffer_length(&mut rng, full.words as usize);
             let sets = generate::buffer_length(&mut rng, full.set_words as usize);
             let answer = generate::answer_length(&mut rng);
-            let before = State {
-                number: !0,
-                table: Lent::words(&mut rng, table),
-                sets: Lent::words(&mut rng, sets),
-                answer: Lent::words(&mut rng, answer),
-            };
+            let before = State::new(&mut rng, table, sets, answer);
             let input = Input {
                 place,
                 call,
@@ -688,6 +792,7 @@ impl Differential {
         if rng.chance(1, 64) {
             self.whole_case(&mut rng, place);
         }
+        self.triple_case(&mut rng, place);
     }
 
     /// The list that complement union makes of an accepted pair, and the sets
@@ -743,6 +848,10 @@ impl Differential {
             (self.none_not_empty, "other sets than with empty for none"),
             (self.none_not_zero, "other sets than with 0 for none"),
             (self.none_pages, "page with none"),
+            (self.left_out_early, "row left out before the third image"),
+            (self.other_pairs, "other pairs tried in the other grouping"),
+            (self.with_itself, "result with itself"),
+            (self.no_input, "too many rows after the first union"),
         ];
         for (count, name) in counts {
             if count == 0 {
@@ -761,7 +870,10 @@ impl Differential {
              unions with none {}, {} with more or fewer sets if it were empty, {} if it were 0; \
              set lists read: {} ({}), up to {} words, {} of complement union; \
              pages: {} ({}), {} with none, {} of complement union's tables, \
-             {} tables of up to {} pages read back{}",
+             {} tables of up to {} pages read back; \
+             three images: {}, {} with all four unions done, of these {} with a row left out early, \
+             {} with other pairs tried, {} with the result united with itself; \
+             {} with too many rows after the first union{}",
             self.calls,
             outcomes.join(", "),
             self.naive_calls,
@@ -787,6 +899,12 @@ impl Differential {
             self.made_tables,
             self.whole_tables,
             self.most_pages,
+            self.triples,
+            self.grouped,
+            self.left_out_early,
+            self.other_pairs,
+            self.with_itself,
+            self.no_input,
             if missing.is_empty() {
                 String::new()
             } else {

@@ -6,18 +6,19 @@ mod marks;
 mod none;
 mod paper;
 mod room;
+mod three;
 
 use run_cases::{image, print};
 use std::io;
 
-// Complement union of two tables in buffers of some words, with the answer printed.
+// Complement union of two tables in buffers of some words, with the answer printed. Returns the words written into the table buffer.
 fn complement(
     rt: &(impl Print + AllocGlobal),
     a: &[u32],
     b: &[u32],
     room: usize,
     set_room: usize,
-) -> io::Result<()> {
+) -> io::Result<Vec<u32>> {
     let mut table = print::lend(rt.alloc(), room)?;
     let mut list = print::lend(rt.alloc(), set_room)?;
     let answer = unions::complement_union(a, b, &mut table, &mut list);
@@ -31,8 +32,11 @@ fn complement(
             done.set_words,
         ]),
     )?;
-    print::buffer(rt, &table, answer.map_or(0, |done| done.words))?;
-    print::buffer(rt, &list, answer.map_or(0, |done| done.set_words))
+    let words = answer.map_or(0, |done| done.words);
+    print::buffer(rt, &table, words)?;
+    print::buffer(rt, &list, answer.map_or(0, |done| done.set_words))?;
+    table.truncate(words);
+    Ok(table)
 }
 
 // A case: its name, its two tables, and the words of the table buffer and of the set buffer.
@@ -53,5 +57,6 @@ fn main(rt: HostRuntime) -> io::Result<()> {
     cases(&rt, &room::CASES)?;
     marks::run(&rt)?;
     cases(&rt, &none::CASES)?;
+    three::run(&rt)?;
     many::run(&rt)
 }

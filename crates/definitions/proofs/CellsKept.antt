@@ -1,7 +1,6 @@
 -- Request A4, "Every union reads it so": a filled word, a number or `none`, stands in a column of each union's result exactly if it stands
 -- in that column of either table. Assumes nothing.
 use mathlib.Core.Path.{◌≡◌, refl, sym, ◌∙◌, ap, subst}
-use mathlib.Core.Bool.{true}
 use mathlib.Core.Logic.{◌⊎◌, ◌↔◌, inl, inr, ⊎_elim}
 use mathlib.Core.List.{List, [], ◌++◌, map}
 use Prim.Native.Nat.{ℕ, ◌^◌, ◌<◌}
@@ -13,11 +12,11 @@ use Rattle.definitions.specs.Lists.{find_index}
 use Rattle.definitions.specs.Word.{id_of}
 use Rattle.definitions.specs.Image.{image_ids, image_rows, image_of}
 use Rattle.definitions.specs.OuterUnion.{union_ids, union_columns, cell_in, widened, union_rows}
-use Rattle.definitions.specs.MinimumUnion.{subsumes, minimum_rows}
+use Rattle.definitions.specs.MinimumUnion.{minimum_rows}
 use Rattle.definitions.specs.ComplementUnion.{joined, fused_rows}
 use Rattle.definitions.specs.Calls.{Accepted, outer_image, minimum_image, fused_image}
 use Rattle.definitions.specs.Statements.{Member}
-use Rattle.definitions.specs.Claims.{Passed, Filled, WidenedOf}
+use Rattle.definitions.specs.Claims.{Filled, Covered, WidenedOf}
 use Rattle.definitions.specs.NoneClaims.{StandsIn}
 use Rattle.definitions.specs.Promise.{UnionsKeepCells}
 use Rattle.definitions.proofs.Lists.{member-get}
@@ -25,12 +24,12 @@ use Rattle.definitions.proofs.Subsumption.{subsumes_keeps}
 use Rattle.definitions.proofs.Widened.{cell_known, widened_has}
 use Rattle.definitions.proofs.Joined.{joined_some, members_are}
 use Rattle.definitions.proofs.Minimum.{minimum_is, every_row_stays}
-use Rattle.definitions.proofs.Counts.{fused_count, minimum_count}
-use Rattle.definitions.proofs.Unions.{ids_are, rows_are, columns_count, rows_even, minimum_even, fused_are, fused_even}
-use Rattle.definitions.proofs.UnionColumns.{columns_ids, columns_few}
-use Rattle.definitions.proofs.Questions.{passed_is}
-use Rattle.definitions.proofs.Outcomes.{outer_done, minimum_done, complement_done}
-use Rattle.definitions.proofs.Images.{words_front, image_rows_front, passed_ids, passed_rows, accepted_rows}
+use Rattle.definitions.proofs.Counts.{fused_count}
+use Rattle.definitions.proofs.Unions.{rows_are, columns_count, rows_even, minimum_even, fused_are, fused_even}
+use Rattle.definitions.proofs.UnionColumns.{columns_ids, columns_narrow}
+use Rattle.definitions.proofs.Outcomes.{complement_done}
+use Rattle.definitions.proofs.Promise.{outer_complete, minimum_complete}
+use Rattle.definitions.proofs.Images.{words_front, image_rows_front, row_size, PartOf, first_part, second_part, accepted_rows, minimum_short}
 use Rattle.definitions.proofs.Demand3.{every_row}
 
 -- some row has the word in the column with an id
@@ -53,17 +52,13 @@ module _ (a b : List ℕ) where
 
     -- ---- T
 
-    to_union : (image : List ℕ) → Passed max_rows image → (Member id (image_ids image) → Member id ids)
-        → ((r : List ℕ) → WidenedOf a b image r → Member r T) → StandsIn image id w → RowsHave ids T id w
-    to_union image p known row i =
-        let own = cell_known [] (image_ids image) i.0 (passed_rows max_rows image p i.0 i.1 ∙ sym (passed_ids max_rows image p)) id w filled i.2 in
-        (widened ids (image_ids image) i.0, row _ (i.0, i.1, refl), widened_has ids (image_ids image) i.0 id (known own) ∙ i.2)
+    to_union : (image : List ℕ) → PartOf a b image → StandsIn image id w → RowsHave ids T id w
+    to_union image p i =
+        let own = cell_known [] (image_ids image) i.0 (row_size max_rows image p.passed i.0 i.1) id w filled i.2 in
+        (widened ids (image_ids image) i.0, p.rows _ (i.0, i.1, refl), widened_has ids (image_ids image) i.0 id (p.ids id own) ∙ i.2)
 
     in_union : Accepted a b → Given → RowsHave ids T id w
-    in_union c =
-        ⊎_elim
-        (to_union a ((passed_is max_rows a).0 c.first) (λ m. (ids_are a b id).1 (inl m)) (λ r v. (rows_are a b r).1 (inl v)))
-        (to_union b ((passed_is max_rows b).0 c.second) (λ m. (ids_are a b id).1 (inr m)) (λ r v. (rows_are a b r).1 (inr v)))
+    in_union c = ⊎_elim (to_union a (first_part a b c)) (to_union b (second_part a b c))
 
     from_union : RowsHave ids T id w → Given
     from_union i =
@@ -75,7 +70,7 @@ module _ (a b : List ℕ) where
   -- ---- rows that keep the cells of T: they cover its rows, and each filled cell of theirs is one of its rows'
 
   pub record Keeps (rows : List (List ℕ)) : Type 0 where
-    covering : (t : List ℕ) → Member t T → (f : List ℕ) × Member f rows × ((f ≡ t) ⊎ (subsumes f t ≡ true))
+    covering : (t : List ℕ) → Member t T → Covered rows t
     taken : (f : List ℕ) → Member f rows → (k : ℕ) → Filled (get_or f k 0) → (t : List ℕ) × Member t T × (get_or f k 0 ≡ get_or t k 0)
     even : (f : List ℕ) → Member f rows → length f ≡ length columns
     few : length rows < 2 ^ 12
@@ -94,7 +89,7 @@ module _ (a b : List ℕ) where
       covering = every_row_stays T;
       taken = λ f m k filled. (f, ((minimum_is T f).0 m).0, refl);
       even = minimum_even a b;
-      few = omega (arith, accepted_rows a b c, minimum_count T);
+      few = minimum_short a b c;
     }
 
     fused_keeps : length (fused_rows columns T) < 2 ^ 12 → Keeps (fused_rows columns T)
@@ -128,7 +123,7 @@ module _ (a b : List ℕ) where
       pub front_keeps : (after rest : List ℕ) → after ≡ image_of columns rows ++ rest → StandsIn after id w ↔ (StandsIn a id w ⊎ StandsIn b id w)
       front_keeps after rest e =
           let front = image_of columns rows ++ rest in
-          let narrow : length columns < 2 ^ 5 = omega (arith, columns_few a b c) in
+          let narrow = columns_narrow a b c in
           let words = ap (map id_of) (words_front columns rows narrow rest) ∙ columns_ids a b in
           let read = image_rows_front columns rows narrow rest keeps.few keeps.even in
           subst (λ (x : List ℕ). StandsIn x id w ↔ Given id w filled) (sym e)
@@ -144,11 +139,11 @@ unions_keep_cells a b table sets values table_after sets_after call id w filled 
     let T = union_rows a b in
     ⊎_elim
     (λ p.
-    let c = ((outer_done a b (length table) values).0 (sym p.answers)).accepted in
+    let c = (outer_complete a b table table_after values p).accepted in
     front_keeps a b c T (union_keeps a b c) id w filled table_after _ p.writes)
     (⊎_elim
     (λ p.
-    let c = ((minimum_done a b (length table) values).0 (sym p.answers)).accepted in
+    let c = (minimum_complete a b table table_after values p).accepted in
     front_keeps a b c (minimum_rows T) (minimum_keeps a b c) id w filled table_after _ p.writes)
     (λ p.
     let d = (complement_done a b (length table) (length sets) values).0 (sym p.answers) in

@@ -1,17 +1,17 @@
 -- Demand 3, sentence by sentence, over the sets and the fused rows of T. T is `union_rows a b`, its column words are `union_columns a b`. Assumes nothing.
 use mathlib.Core.Path.{◌≡◌, refl, sym, ◌∙◌}
-use mathlib.Core.Bool.{Bool, true}
-use mathlib.Core.Logic.{◌⊎◌, ◌↔◌}
+use mathlib.Core.Bool.{Bool}
+use mathlib.Core.Logic.{◌↔◌}
 use mathlib.Core.List.{List, []}
 use Prim.Native.Nat.{ℕ, ◌<◌}
 use lib.ListN.{length, get_or}
 use Rattle.definitions.specs.OuterUnion.{compare_row, union_columns, union_rows}
-use Rattle.definitions.specs.MinimumUnion.{subsumes, minimum_rows}
+use Rattle.definitions.specs.MinimumUnion.{minimum_rows}
 use Rattle.definitions.specs.ComplementUnion.{compare_set, complement_at, joined, union_sets, fused_rows}
 use Rattle.definitions.specs.SetList.{fused_position}
 use Rattle.definitions.specs.Statements.{Member, StrictlyAscending}
 use Rattle.definitions.specs.Demand3.{MaximalRows}
-use Rattle.definitions.specs.Claims.{JoinedOf}
+use Rattle.definitions.specs.Claims.{Covered, JoinedOf}
 use Rattle.definitions.proofs.Lists.{member_at}
 use Rattle.definitions.proofs.Complementing.{complement_sym}
 use Rattle.definitions.proofs.Sets.{listed_is, listed_rise}
@@ -55,7 +55,7 @@ module _ (a b : List ℕ) where
   fused_once = fused_rise columns T
 
   -- "Every row of T, and so every row of the minimum union, is equal to or subsumed by a fused row."
-  pub every_row : (t : List ℕ) → Member t T → (f : List ℕ) × Member f (fused_rows columns T) × ((f ≡ t) ⊎ (subsumes f t ≡ true))
+  pub every_row : (t : List ℕ) → Member t T → Covered (fused_rows columns T) t
   unfolding union_sets
   every_row t h =
       let i = member_at [] t T h in
@@ -66,5 +66,5 @@ module _ (a b : List ℕ) where
         member_covered columns T s.0 c (length columns) (rows_even a b) t ((members_are T s.0 t).1 (i.0, i.1, s.2, sym i.2)),
       )
 
-  pub every_minimum_row : (t : List ℕ) → Member t (minimum_rows T) → (f : List ℕ) × Member f (fused_rows columns T) × ((f ≡ t) ⊎ (subsumes f t ≡ true))
+  pub every_minimum_row : (t : List ℕ) → Member t (minimum_rows T) → Covered (fused_rows columns T) t
   every_minimum_row t h = every_row t ((minimum_is T t).0 h).0

@@ -5,7 +5,7 @@ use mathlib.Core.List.{List, [], ◌∷◌, ◌++◌, map, flatten}
 use Prim.Native.Nat.{ℕ, ◌/◌, ◌%◌, ◌^◌}
 use lib.ListN.{replicate}
 use Rattle.definitions.specs.Lists.{all, any, filter, find_index, distinct, all_below, sum_below, tabulate}
-use Rattle.definitions.specs.Word.{word_of, none as ∄}
+use Rattle.definitions.specs.Word.{word_of}
 use Rattle.definitions.specs.Image.{image_of}
 use Rattle.definitions.specs.Ascending.{insert, ascending}
 use Rattle.definitions.specs.OuterUnion.{compare_row, union_ids, union_columns, widened, widened_rows, union_rows}
@@ -21,13 +21,7 @@ use Rattle.definitions.specs.Page.{blanks, page_line, band_page, page, all_pages
 use Rattle.definitions.specs.declared.Output.TheVariants.{Pages}
 use Rattle.definitions.specs.Program.{words_of, union_text, minimum_text, sets_text, fused_text, listing, unions_text, read_text, whole_text, fuse_text}
 use Rattle.definitions.specs.Outputs.{whole_output}
-
--- a filled cell with its number, and the empty cell; `∄` is the cell `none` of request A4
-abbrev # : ℕ → ℕ
-# number = word_of 1 number
-
-abbrev ∅ : ℕ
-∅ = 0
+use Rattle.definitions.proofs.Notation.{#, ∅, ∄}
 
 -- the bytes of words, low byte first
 abbrev bytes_of : List ℕ → List ℕ

@@ -1,5 +1,5 @@
--- The image of a table reads back as that table; the rows of an image that passes the questions have a cell for each of its columns; and
--- an accepted pair has at most 64 rows in T. Assumes nothing.
+-- The image of a table reads back as that table; the rows of an image that passes the questions have a cell for each of its columns; each
+-- table of an accepted pair passes, and the union has its ids and its rows; and T has at most 64 rows. Assumes nothing.
 use mathlib.Core.Path.{◌≡◌, refl, sym, ◌∙◌, ap, ap₂}
 use mathlib.Core.Bool.{true}
 use mathlib.Core.Logic.{inl, inr, ⊎_elim}
@@ -14,10 +14,12 @@ use Rattle.definitions.specs.Limits.{max_rows, max_union_rows}
 use Rattle.definitions.specs.Word.{kind_of, rows_of, columns_of, header_spare, header_word, id_of}
 use Rattle.definitions.specs.Image.{column_count, row_count, is_header, column_words, image_ids, cell_words, rows_in, image_rows, image_of}
 use Rattle.definitions.specs.OuterUnion.{compare_row, union_ids, widened, widened_rows, union_rows}
+use Rattle.definitions.specs.MinimumUnion.{minimum_rows}
 use Rattle.definitions.specs.Statements.{Member}
-use Rattle.definitions.specs.Claims.{Passed}
+use Rattle.definitions.specs.Claims.{Passed, WidenedOf}
 use Rattle.std.proofs.lemmas.Bool.{and_from}
-use Rattle.definitions.proofs.Counts.{ascending-length}
+use Rattle.definitions.proofs.Counts.{ascending-length, minimum_count}
+use Rattle.definitions.proofs.Unions.{ids_are, rows_are}
 use Rattle.definitions.proofs.Questions.{passed_is}
 use Rattle.definitions.specs.Calls.{Accepted}
 
@@ -85,6 +87,9 @@ module _ (columns : List ℕ) (rows : List (List ℕ)) (few : length columns < 2
   pub image_cells : cell_words (image_of columns rows) ≡ flatten rows
   image_cells = ap cell_words (sym (append-nil (image_of columns rows))) ∙ cells_front columns rows few [] ∙ append-nil (flatten rows)
 
+  pub image_rows_lem : length rows < 2 ^ 12 → ((r : List ℕ) → Member r rows → length r ≡ length columns) → image_rows (image_of columns rows) ≡ rows
+  image_rows_lem g f = ap image_rows (sym (append-nil (image_of columns rows))) ∙ image_rows_front columns rows few [] g f
+
 -- the words of the first n rows
 pub words_rows : (c n : ℕ) (words : List ℕ) → flatten (rows_in c n words) ≡ take (n * c) words
 unfolding flatten
@@ -119,12 +124,36 @@ module _ (limit : ℕ) (image : List ℕ) (p : Passed limit image) where
       rows_wide (column_count image) (row_count image) (cell_words image)
       (omega (arith, length-drop (1 + column_count image) image, p.all_words)) r h
 
+  -- a row has a cell for each id
+  pub row_size : (r : List ℕ) → Member r (image_rows image) → length r ≡ length (image_ids image)
+  row_size r h = passed_rows r h ∙ sym passed_ids
+
 -- ---- an accepted pair
 
 pub widened_count : (union image : List ℕ) → length (widened_rows union image) ≡ row_count image
 unfolding widened_rows
 widened_count union image =
     length-map (image_rows image) (widened union (image_ids image)) ∙ rows_length (column_count image) (row_count image) (cell_words image)
+
+-- one of the two tables: it passes, and the union has its ids and its rows, widened
+pub record PartOf (a b image : List ℕ) : Type 0 where
+  pub passed : Passed max_rows image
+  pub ids : (id : ℕ) → Member id (image_ids image) → Member id (union_ids a b)
+  pub rows : (r : List ℕ) → WidenedOf a b image r → Member r (union_rows a b)
+
+pub first_part : (a b : List ℕ) → Accepted a b → PartOf a b a
+first_part a b c = record {
+  passed = (passed_is max_rows a).0 c.first;
+  ids = λ id m. (ids_are a b id).1 (inl m);
+  rows = λ r w. (rows_are a b r).1 (inl w);
+}
+
+pub second_part : (a b : List ℕ) → Accepted a b → PartOf a b b
+second_part a b c = record {
+  passed = (passed_is max_rows b).0 c.second;
+  ids = λ id m. (ids_are a b id).1 (inr m);
+  rows = λ r w. (rows_are a b r).1 (inr w);
+}
 
 pub accepted_rows : (a b : List ℕ) → Accepted a b → length (union_rows a b) ≤ max_union_rows
 unfolding union_rows
@@ -135,6 +164,10 @@ accepted_rows a b c =
     let j = length-append l m in
     let x = widened_count (union_ids a b) a in
     let y = widened_count (union_ids a b) b in
-    let p = ((passed_is max_rows a).0 c.first).few_rows in
-    let q = ((passed_is max_rows b).0 c.second).few_rows in
+    let p = (first_part a b c).passed.few_rows in
+    let q = (second_part a b c).passed.few_rows in
     omega arith
+
+-- so that a header's twelve bits hold how many of them stay
+pub minimum_short : (a b : List ℕ) → Accepted a b → length (minimum_rows (union_rows a b)) < 2 ^ 12
+minimum_short a b c = omega (arith, accepted_rows a b c, minimum_count (union_rows a b))

@@ -39,7 +39,8 @@ use Rattle.definitions.proofs.Reading.{records_count}
 use Rattle.definitions.proofs.MaximalRows.{rows_maximal}
 use Rattle.definitions.proofs.Cells.{none_text}
 use Rattle.definitions.proofs.Pages.{no_cell_is_lost}
-use Rattle.definitions.proofs.FusedPasses.{union_cells, fused_cells}
+use Rattle.definitions.proofs.TablePasses.{union_cells}
+use Rattle.definitions.proofs.FusedPasses.{fused_cells}
 
 -- ---- the word
 

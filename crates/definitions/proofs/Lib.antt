@@ -13,6 +13,7 @@ pub mod Completion
 pub mod Widened
 pub mod Joined
 pub mod Minimum
+pub mod Reduced
 pub mod Counts
 pub mod Unions
 pub mod UnionColumns
@@ -42,10 +43,16 @@ pub mod PageLines
 pub mod Pages
 pub mod ReadBound
 pub mod TableWords
+pub mod TablePasses
 pub mod FusedPasses
 pub mod KnownNone
 pub mod CellsKept
+pub mod MinimumResult
+pub mod Grouping
+pub mod GroupedCalls
 pub mod TextLength
+pub mod Notation
 pub mod Paper
 pub mod Example
+pub mod ThreeTables
 pub mod ReadExample

@@ -8,7 +8,6 @@ use Prim.Native.Nat.{ℕ, ◌+◌, ◌*◌}
 use lib.Dec.{eqb}
 use lib.ListN.{length, get_or}
 use Rattle.definitions.specs.Lists.{all, any, filter, find_index, distinct, all_below, sum_below}
-use Rattle.definitions.specs.Word.{word_of, column_word, none as ∄}
 use Rattle.definitions.specs.Image.{image_of, image_rows}
 use Rattle.definitions.specs.Ascending.{insert, ascending}
 use Rattle.definitions.specs.OuterUnion.{compare_row, union_ids, union_columns, widened, widened_rows, union_rows}
@@ -18,26 +17,13 @@ use Rattle.definitions.specs.SetList.{bits, marks_from, record_of, set_record, l
 use Rattle.definitions.specs.Questions.{image_number}
 use Rattle.definitions.specs.Answer.{Outcome, done, refused}
 use Rattle.definitions.specs.Calls.{pair_outcome, outer_image, minimum_image, fused_image, complement_outcome}
-
--- a filled cell with its number, and the empty cell; `∄` is the cell `none` of request A4
-abbrev # : ℕ → ℕ
-# number = word_of 1 number
-
-abbrev ∅ : ℕ
-∅ = 0
+use Rattle.definitions.proofs.Notation.{#, ∅, ∄, column, marked}
 
 abbrev ● : Bool
 ● = true
 
 abbrev ○ : Bool
 ○ = false
-
--- a column with an id, and one that is marked
-abbrev column : ℕ → ℕ
-column id = column_word id ○
-
-abbrev marked : ℕ → ℕ
-marked id = column_word id ●
 
 -- the columns of a table
 abbrev two : List ℕ

@@ -18,21 +18,21 @@ use Rattle.definitions.specs.declared.refusal.Refusal.{Refusal}
 use Rattle.definitions.specs.Refusal.{question_number, table_number}
 use Rattle.definitions.specs.Image.{image_of, image_rows}
 use Rattle.definitions.specs.OuterUnion.{compare_row, union_columns, union_rows}
-use Rattle.definitions.specs.MinimumUnion.{filled}
+use Rattle.definitions.specs.MinimumUnion.{filled, minimum_rows, pairs_tried}
 use Rattle.definitions.specs.ComplementUnion.{compare_set, joined, union_sets, fused_rows}
 use Rattle.definitions.specs.SetList.{fused_position, set_list}
 use Rattle.definitions.specs.Answer.{Outcome, done, refused, complement_says, afterwards}
-use Rattle.definitions.specs.Calls.{Accepted, outer_image, fused_image, complement_outcome}
+use Rattle.definitions.specs.Calls.{Accepted, outer_image, minimum_image, fused_image, complement_outcome}
 use Rattle.definitions.specs.Reading.{set_count}
 use Rattle.definitions.specs.Statements.{Member, StrictlyAscending}
 use Rattle.definitions.specs.Demand3.{listed_sets, position_at, Demand3, MeetsDemand3, words_of_table, words_of_sets}
-use Rattle.definitions.specs.Promise.{BufferPromise, OuterPromise, ComplementPromise, SameCalls}
+use Rattle.definitions.specs.Promise.{BufferPromise, OuterPromise, MinimumPromise, ComplementPromise, SameCalls}
 use Rattle.definitions.specs.Claims.{TableDone, ComplementDone}
 use Rattle.definitions.proofs.Lists.{member-get}
 use Rattle.definitions.proofs.Counts.{fused_count}
 use Rattle.definitions.proofs.Unions.{rows_even, fused_even}
-use Rattle.definitions.proofs.UnionColumns.{columns_few}
-use Rattle.definitions.proofs.Outcomes.{accepted_on, outer_done, complement_done}
+use Rattle.definitions.proofs.UnionColumns.{columns_narrow}
+use Rattle.definitions.proofs.Outcomes.{accepted_on, outer_done, minimum_done, complement_done}
 use Rattle.definitions.proofs.Images.{image_rows_front, accepted_rows}
 use Rattle.definitions.proofs.Reading.{count_read, sets_read, positions_at}
 use Rattle.definitions.proofs.Demand3.{listed_exactly, listed_once, listed_with_row, fused_exactly, fused_once}
@@ -91,7 +91,7 @@ module _ (a b rest rest_sets : List ℕ) (room sets_room : ℕ) (values : List �
   table_read : image_rows (fused_image a b ++ rest) ≡ fused_rows (union_columns a b) (union_rows a b)
   unfolding fused_image
   table_read =
-      image_rows_front (union_columns a b) (fused_rows (union_columns a b) (union_rows a b)) (omega (arith, columns_few a b d.accepted)) rest
+      image_rows_front (union_columns a b) (fused_rows (union_columns a b) (union_rows a b)) (columns_narrow a b d.accepted) rest
       (omega (arith, d.few_sets, fused_count (union_columns a b) (union_rows a b)))
       (fused_even (union_columns a b) (union_rows a b) (length (union_columns a b)) (rows_even a b))
 
@@ -287,3 +287,16 @@ pub outer_complete : (a b table table_after values : List ℕ) → OuterPromise 
     → TableDone a b (outer_image a b) (length table)
     (length (union_rows a b) ∷ length (outer_image a b) ∷ filled (flatten (union_rows a b)) ∷ []) values
 outer_complete a b table table_after values p = (outer_done a b (length table) values).0 (sym p.answers)
+
+pub minimum_complete : (a b table table_after values : List ℕ) → MinimumPromise a b table (done values) table_after
+    → TableDone a b (minimum_image a b) (length table)
+    (length (minimum_rows (union_rows a b)) ∷ length (minimum_image a b) ∷ filled (flatten (minimum_rows (union_rows a b)))
+    ∷ pairs_tried (union_rows a b) ∷ []) values
+minimum_complete a b table table_after values p = (minimum_done a b (length table) values).0 (sym p.answers)
+
+-- the words that a done minimum union wrote are its image
+pub minimum_front : (a b table table_after values : List ℕ) → MinimumPromise a b table (done values) table_after
+    → take (words_of_table (done values)) table_after ≡ minimum_image a b
+minimum_front a b table table_after values p =
+    front (done values) (minimum_image a b) table table_after p.writes (words_of_table (done values))
+    (sym (ap (λ (l : List ℕ). get_or l 1 0) (minimum_complete a b table table_after values p).carries))

@@ -1,4 +1,4 @@
--- What it is for an image to pass the questions 1 to 7. Assumes nothing.
+-- What it is for an image to pass the questions 1 to 7, and that the third alone depends on the limit of rows. Assumes nothing.
 use mathlib.Core.Path.{◌≡◌, refl, ◌∙◌, ap}
 use mathlib.Core.Bool.{Bool, true, false, ◌&&◌}
 use mathlib.Core.Logic.{◌↔◌}
@@ -13,6 +13,7 @@ use Rattle.definitions.specs.Lists.{all, distinct}
 use Rattle.definitions.specs.Word.{is_cell}
 use Rattle.definitions.specs.Image.{header, column_count, row_count, is_header, is_column, column_words, image_ids, cell_words, image_length}
 use Rattle.definitions.specs.Questions.{ask, image_number}
+use Rattle.definitions.specs.Answer.{no}
 use Rattle.definitions.specs.Claims.{Passed}
 use Rattle.std.proofs.lemmas.Bool.{and_from, and_parts}
 
@@ -20,8 +21,11 @@ pub ask_passed : (b : Bool) (number rest : ℕ) → ask b (suc number) rest ≡ 
 ask_passed true number rest e = (refl, e)
 ask_passed false number rest e = absurd (omega arith)
 
+asked : (b : Bool) (number rest : ℕ) → b ≡ true → ask b number rest ≡ rest
+asked b number rest e = ap (λ (x : Bool). ask x number rest) e
+
 pub asks : (b : Bool) (number rest : ℕ) → b ≡ true → rest ≡ 0 → ask b number rest ≡ 0
-asks b number rest e f = ap (λ (x : Bool). ask x number rest) e ∙ f
+asks b number rest e f = asked b number rest e ∙ f
 
 pub passed_is : (limit : ℕ) (image : List ℕ) → (image_number limit image ≡ 0) ↔ Passed limit image
 unfolding image_number
@@ -57,3 +61,17 @@ passed_is limit image = (to, from)
         (asks _ 5 _ p.all_column_words
         (asks _ 6 _ p.distinct_ids
         (asks _ 7 _ p.all_cell_words refl))))))
+
+-- an image that passes with some limit of rows can fail only the third question with another one
+pub rows_asked : (wide limit : ℕ) (image : List ℕ) → Passed wide image → image_number limit image ≡ no (leb (row_count image) limit) 3
+unfolding image_number
+rows_asked wide limit image p =
+    let header = and_from _ _ (lt-ltb 0 (length image) p.first_word) p.is_header_word in
+    let columns = and_from _ _ (le-leb 1 (column_count image) p.some_column) (le-leb (column_count image) max_columns p.few_columns) in
+    let rest = asks _ 4 _ (eq-eqb (length image) (image_length image) p.all_words)
+    (asks _ 5 _ p.all_column_words (asks _ 6 _ p.distinct_ids (asks _ 7 _ p.all_cell_words refl))) in
+    asked _ 1 _ header ∙ asked _ 2 _ columns ∙ last (leb (row_count image) limit) _ rest
+  where
+    last : (b : Bool) (rest : ℕ) → rest ≡ 0 → ask b 3 rest ≡ no b 3
+    last true rest e = e
+    last false rest e = refl

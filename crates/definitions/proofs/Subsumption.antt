@@ -64,6 +64,10 @@ subsumes_trans s t u e f =
     let q = (subsumes_is t u).0 f in
     (subsumes_is s u).1 (omega (arith, p.0, q.0), covers_trans s t u p.1 q.1)
 
+-- so too of a row that is s or subsumes it
+pub covered_subsumes : (c s t : List ℕ) → (c ≡ s) ⊎ (subsumes c s ≡ true) → subsumes s t ≡ true → subsumes c t ≡ true
+covered_subsumes c s t h e = ⊎_elim (λ q. rw q e) (λ q. subsumes_trans c s t q e) h
+
 pub subsumes_self : (s : List ℕ) → subsumes s s ≡ false
 unfolding subsumes
 subsumes_self s = ap (λ (b : Bool). b && covers s s) (le-ltb (filled s) (filled s) (omega arith))

@@ -34,18 +34,20 @@ word_mark id false h = ne_eqb (column_word id false / 2 ^ 29 % 2) 1 (λ e. omega
 
 -- ---- the words of a table
 
-module _ (id : ℕ) (image : List ℕ) where
-  abbrev marking : ℕ → Bool
-  marking w = eqb id (id_of w) && mark_of w
+-- a column word has the id and the mark
+abbrev marking : ℕ → ℕ → Bool
+marking id w = eqb id (id_of w) && mark_of w
 
-  pub marks_is : (marks (column_words image) id ≡ true) ↔ MarkedIn image id
-  marks_is = (
-    λ e.
-        let i = any_true marking (column_words image) e in
-        let w = i.0 in
-        (w, i.1, sym (eqb-true id (id_of w) (and_parts (eqb id (id_of w)) (mark_of w) i.2).0), (and_parts (eqb id (id_of w)) (mark_of w) i.2).1),
-    λ m. any_of marking m.0 (column_words image) m.1 (and_from _ _ (eq-eqb id (id_of m.0) (sym m.2)) m.3),
-  )
+marking_parts : (id w : ℕ) → marking id w ≡ true → (id_of w ≡ id) × (mark_of w ≡ true)
+marking_parts id w e =
+    let p = and_parts (eqb id (id_of w)) (mark_of w) e in
+    (sym (eqb-true id (id_of w) p.0), p.1)
+
+pub marks_is : (id : ℕ) (image : List ℕ) → (marks (column_words image) id ≡ true) ↔ MarkedIn image id
+marks_is id image = (
+  λ e. let i = any_true (marking id) (column_words image) e in let p = marking_parts id i.0 i.2 in (i.0, i.1, p.0, p.1),
+  λ m. any_of (marking id) m.0 (column_words image) m.1 (and_from _ _ (eq-eqb id (id_of m.0) (sym m.2)) m.3),
+)
 
 -- ---- the union
 
@@ -81,6 +83,10 @@ module _ (a b : List ℕ) where
   pub columns_few : Accepted a b → length (union_columns a b) ≤ max_columns
   columns_few c = omega (arith, columns_count a b, c.columns)
 
+  -- so that a header's five bits hold their number
+  pub columns_narrow : Accepted a b → length (union_columns a b) < 2 ^ 5
+  columns_narrow c = omega (arith, columns_few c)
+
   -- they are told by the ids and the marks
   pub word_told : (w : ℕ) → Member w (union_columns a b) → w ≡ column_word (id_of w) (mark_of w)
   unfolding union_columns
@@ -99,6 +105,16 @@ module _ (a b : List ℕ) where
       each [] f = refl
       each (w ∷ words) f = ap₂ (λ (x : ℕ) (l : List ℕ). x ∷ l) (f w (inl refl)) (each words (λ v h. f v (inr h)))
 
+  marked_left : (id : ℕ) → MarkedIn a id → marked id ≡ true
+  marked_left id m = or_left (marks (column_words a) id) (marks (column_words b) id) ((marks_is id a).1 m)
+
+  marked_right : (id : ℕ) → MarkedIn b id → marked id ≡ true
+  marked_right id m = or_right (marks (column_words a) id) (marks (column_words b) id) ((marks_is id b).1 m)
+
+  marked_where : (id : ℕ) → marked id ≡ true → MarkedIn a id ⊎ MarkedIn b id
+  marked_where id e =
+      ⊎_elim (λ q. inl ((marks_is id a).0 q)) (λ q. inr ((marks_is id b).0 q)) (or_cases (marks (column_words a) id) (marks (column_words b) id) e)
+
   -- "A column is marked in the union if either table marks it."
   pub marks-either : (w : ℕ) → Member w (union_columns a b) → (mark_of w ≡ true) ↔ (MarkedIn a (id_of w) ⊎ MarkedIn b (id_of w))
   unfolding union_columns
@@ -109,16 +125,32 @@ module _ (a b : List ℕ) where
       let same : id_of w ≡ id = ap id_of i.2 ∙ word_id id (marked id) small in
       let mark : mark_of w ≡ marked id = ap mark_of i.2 ∙ word_mark id (marked id) small in (
         λ e.
-            subst (λ (k : ℕ). MarkedIn a k ⊎ MarkedIn b k) (sym same)
-            (⊎_elim (λ q. inl ((marks_is id a).0 q)) (λ q. inr ((marks_is id b).0 q))
-            (or_cases (marks (column_words a) id) (marks (column_words b) id) (sym mark ∙ e))),
+            subst (λ (k : ℕ). MarkedIn a k ⊎ MarkedIn b k) (sym same) (marked_where id (sym mark ∙ e)),
         λ m.
-            mark
-            ∙ ⊎_elim
-            (λ q. or_left (marks (column_words a) id) (marks (column_words b) id) ((marks_is id a).1 q))
-            (λ q. or_right (marks (column_words a) id) (marks (column_words b) id) ((marks_is id b).1 q))
-            (subst (λ (k : ℕ). MarkedIn a k ⊎ MarkedIn b k) same m),
+            mark ∙ ⊎_elim (marked_left id) (marked_right id) (subst (λ (k : ℕ). MarkedIn a k ⊎ MarkedIn b k) same m),
       )
+
+  -- the same of an id, whether or not it is one of the union's
+  pub union_marks : (id : ℕ) → marks (union_columns a b) id ≡ marked id
+  unfolding union_columns
+  union_marks id = bool_eq (marks (union_columns a b) id) (marked id) to from
+    where
+      known : (image : List ℕ) → MarkedIn image id → Member id (image_ids image)
+      known image m = subst (λ (x : ℕ). Member x (image_ids image)) m.2 (member-map id_of m.0 (column_words image) m.1)
+
+      to : marks (union_columns a b) id ≡ true → marked id ≡ true
+      to e =
+          let i = any_true (marking id) (union_columns a b) e in
+          let p = marking_parts id i.0 i.2 in
+          ⊎_elim (λ m. marked_left id (subst (MarkedIn a) p.0 m)) (λ m. marked_right id (subst (MarkedIn b) p.0 m)) ((marks-either i.0 i.1).0 p.1)
+
+      from : marked id ≡ true → marks (union_columns a b) id ≡ true
+      from e =
+          let there = (ids_are a b id).1 (⊎_elim (λ m. inl (known a m)) (λ m. inr (known b m)) (marked_where id e)) in
+          let word = column_word id (marked id) in
+          let small = small_ids id there in
+          any_of (marking id) word (union_columns a b) (member-map (λ id. column_word id (marked id)) id (union_ids a b) there)
+          (and_from _ _ (eq-eqb id (id_of word) (sym (word_id id (marked id) small))) (word_mark id (marked id) small ∙ e))
 
   -- "If any is marked": some column of the union is if some column of a table is
   pub any_marked : any mark_of (union_columns a b) ≡ (any mark_of (column_words a) || any mark_of (column_words b))
@@ -133,22 +165,15 @@ module _ (a b : List ℕ) where
       ((marks-either i.0 i.1).0 i.2))
       (λ e.
       ⊎_elim
-      (λ q. let i = any_true mark_of (column_words a) q in
-      seen i.0 (inl (member-map id_of i.0 (column_words a) i.1)) (inl (i.0, i.1, refl, i.2)))
-      (λ q. let i = any_true mark_of (column_words b) q in
-      seen i.0 (inr (member-map id_of i.0 (column_words b) i.1)) (inr (i.0, i.1, refl, i.2)))
+      (λ q. let i = any_true mark_of (column_words a) q in seen (id_of i.0) (marked_left (id_of i.0) (i.0, i.1, refl, i.2)))
+      (λ q. let i = any_true mark_of (column_words b) q in seen (id_of i.0) (marked_right (id_of i.0) (i.0, i.1, refl, i.2)))
       (or_cases (any mark_of (column_words a)) (any mark_of (column_words b)) e))
     where
-      -- a column word of a table that has the mark: the union's word with its id has it too
-      seen : (w : ℕ) → (Member (id_of w) (image_ids a) ⊎ Member (id_of w) (image_ids b)) → (MarkedIn a (id_of w) ⊎ MarkedIn b (id_of w))
-          → any mark_of (union_columns a b) ≡ true
-      seen w h m =
-          let id = id_of w in
-          let there = (ids_are a b id).1 h in
-          let mine : Member (column_word id (marked id)) (union_columns a b) = member-map (λ id. column_word id (marked id)) id (union_ids a b) there in
-          let same = word_id id (marked id) (small_ids id there) in
-          any_of mark_of (column_word id (marked id)) (union_columns a b) mine
-          ((marks-either (column_word id (marked id)) mine).1 (subst (λ (k : ℕ). MarkedIn a k ⊎ MarkedIn b k) (sym same) m))
+      -- an id that a table marks: the union's word with it has the mark
+      seen : (id : ℕ) → marked id ≡ true → any mark_of (union_columns a b) ≡ true
+      seen id e =
+          let i = any_true (marking id) (union_columns a b) (union_marks id ∙ e) in
+          any_of mark_of i.0 (union_columns a b) i.1 (marking_parts id i.0 i.2).1
 
 -- equal ids and equal marks are equal column words
 pub same_columns : (a b c d : List ℕ) → union_ids a b ≡ union_ids c d → map mark_of (union_columns a b) ≡ map mark_of (union_columns c d)

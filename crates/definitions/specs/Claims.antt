@@ -7,7 +7,7 @@ use Rattle.definitions.specs.Word.{id_of, mark_of, is_filled, is_cell}
 use Rattle.definitions.specs.Image.{header, column_count, row_count, is_header, is_column, column_words, image_ids, cell_words}
 use Rattle.definitions.specs.Image.{image_rows, image_length}
 use Rattle.definitions.specs.OuterUnion.{union_ids, union_columns, widened, union_rows}
-use Rattle.definitions.specs.MinimumUnion.{subsumes, minimum_rows}
+use Rattle.definitions.specs.MinimumUnion.{subsumes}
 use Rattle.definitions.specs.ComplementUnion.{contains, compare_set, joined, union_sets}
 use Rattle.definitions.specs.SetList.{set_list}
 use Rattle.definitions.specs.Calls.{Accepted, fused_image, complement_values}
@@ -105,9 +105,9 @@ pub record Complements (columns s t : List ℕ) : Type 0 where
 abbrev pub WidenedOf : List ℕ → List ℕ → List ℕ → List ℕ → Type 0
 WidenedOf a b image r = (row : List ℕ) × Member row (image_rows image) × (r ≡ widened (union_ids a b) (image_ids image) row)
 
--- a row of the minimum union that is t, or subsumes it
-abbrev pub Stayer : List (List ℕ) → List ℕ → Type 0
-Stayer rows t = (s : List ℕ) × Member s (minimum_rows rows) × ((s ≡ t) ⊎ (subsumes s t ≡ true))
+-- t is "equal to or subsumed by" one of the rows
+abbrev pub Covered : List (List ℕ) → List ℕ → Type 0
+Covered rows t = (s : List ℕ) × Member s rows × ((s ≡ t) ⊎ (subsumes s t ≡ true))
 
 -- ---- demand 2: sets
 

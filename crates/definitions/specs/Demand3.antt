@@ -1,13 +1,14 @@
 -- Demand 3: the words of a table buffer and a set buffer, read by document 01's layouts, hold what each sentence asks for.
-use Rattle.std.specs.Prelude.{◌≡◌, Bool, true, ◌⊎◌, ◌↔◌, List, [], map, ℕ, ◌<◌, length, get_or, take}
+use Rattle.std.specs.Prelude.{◌≡◌, Bool, true, ◌↔◌, List, [], map, ℕ, ◌<◌, length, get_or, take}
 use Rattle.definitions.specs.Limits.{mark_words}
 use Rattle.definitions.specs.Image.{image_rows}
 use Rattle.definitions.specs.OuterUnion.{compare_row, union_columns, union_rows}
-use Rattle.definitions.specs.MinimumUnion.{subsumes, minimum_rows}
+use Rattle.definitions.specs.MinimumUnion.{minimum_rows}
 use Rattle.definitions.specs.ComplementUnion.{complement, compare_set, members, joined}
 use Rattle.definitions.specs.Reading.{set_count, records_in, set_in, joined_position}
 use Rattle.definitions.specs.Answer.{Outcome, done, refused}
 use Rattle.definitions.specs.Statements.{Member, StrictlyAscending}
+use Rattle.definitions.specs.Claims.{Covered}
 
 -- ---- a set of rows of T
 
@@ -33,10 +34,6 @@ listed_sets T sets = map (λ words. take (length T) (set_in mark_words words)) (
 abbrev pub position_at : List ℕ → ℕ → ℕ
 position_at sets k = joined_position mark_words (get_or (records_in mark_words sets) k [])
 
--- t is "equal to or subsumed by a fused row"
-abbrev pub Covered : List ℕ → List ℕ → Type 0
-Covered table t = (f : List ℕ) × Member f (image_rows table) × ((f ≡ t) ⊎ (subsumes f t ≡ true))
-
 -- What is read here is what each sentence speaks of; kinds of words, unused bits and column words are told by the equations of the promise.
 -- `columns` are the union's column words: "Comparison is with the new condition" of request A2.
 pub record Demand3 (columns : List ℕ) (T : List (List ℕ)) (table sets : List ℕ) : Type 0 where
@@ -54,9 +51,9 @@ pub record Demand3 (columns : List ℕ) (T : List (List ℕ)) (table sets : List
   -- "each once, ascending."
   pub rows_once : StrictlyAscending compare_row (image_rows table)
   -- "Every row of T,"
-  pub every_row : (t : List ℕ) → Member t T → Covered table t
+  pub every_row : (t : List ℕ) → Member t T → Covered (image_rows table) t
   -- "and so every row of the minimum union, is equal to or subsumed by a fused row."
-  pub every_minimum_row : (t : List ℕ) → Member t (minimum_rows T) → Covered table t
+  pub every_minimum_row : (t : List ℕ) → Member t (minimum_rows T) → Covered (image_rows table) t
 
 -- "Whatever the two tables hold, a complement union of them that isn't refused": T is "the distinct rows of the outer
 -- union"
@@ -65,7 +62,7 @@ MeetsDemand3 answer a b table sets = (values : List ℕ) → answer ≡ done val
 
 -- ---- its last sentence
 
--- how many words an answer of complement union says are written into the table buffer, and into the set buffer
+-- how many words an answer of a union says are written into the table buffer, and one of complement union into the set buffer
 abbrev pub words_of_table : Outcome → ℕ
 words_of_table (done values) = get_or values 1 0
 words_of_table (refused number table) = 0

@@ -21,6 +21,7 @@ pub mod Statements
 pub mod Claims
 pub mod PageClaims
 pub mod NoneClaims
+pub mod Grouping
 pub mod Unmarked
 pub mod Demand3
 pub mod Promise

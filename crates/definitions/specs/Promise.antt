@@ -148,3 +148,53 @@ NoneIsShown =
     → PagePromise image place.on_page bytes answer bytes_after
     → (answer ≡ done (page_count image ∷ [])) × CellShown image row column place bytes_after
     × (bytes_at (place.on_line * line_bytes + before_field place.field) cell_width bytes_after ≡ ascii "        none"))
+
+-- ---- request A5
+
+-- the words at the beginning of a table buffer that a done answer says were written
+abbrev pub WrittenWords : (values table_after words : List ℕ) → Type 0
+WrittenWords values table_after words = take (words_of_table (done values)) table_after ≡ words
+
+-- a done call of minimum union of a and b wrote these words
+pub record MinimumWrote (a b words : List ℕ) : Type 0 where
+  pub table : List ℕ
+  pub values : List ℕ
+  pub table_after : List ℕ
+  pub call : MinimumPromise a b table (done values) table_after
+  pub written : WrittenWords values table_after words
+
+-- the same of complement union
+pub record ComplementWrote (a b words : List ℕ) : Type 0 where
+  pub table : List ℕ
+  pub sets : List ℕ
+  pub values : List ℕ
+  pub table_after : List ℕ
+  pub sets_after : List ℕ
+  pub call : ComplementPromise a b table sets (done values) table_after sets_after
+  pub written : WrittenWords values table_after words
+
+-- four done calls on three tables, where the words that one wrote are handed to the next: the first two united with the third, and the first
+-- united with the last two
+abbrev pub OfBothGroupings : (Wrote : (a b words : List ℕ) → Type 0) (x y z : List ℕ) (Claim : (left right : List ℕ) → Type 0) → Type 0
+OfBothGroupings Wrote x y z Claim =
+    (first_two left last_two right : List ℕ)
+    → Wrote x y first_two → Wrote first_two z left → Wrote y z last_two → Wrote x last_two right
+    → Claim left right
+
+-- "the minimum union of the first two, united with the third, has the same words as the first united with the minimum union of the last two"
+abbrev pub CallsGrouped : Type 0
+CallsGrouped = (x y z : List ℕ) → OfBothGroupings MinimumWrote x y z (λ left right. left ≡ right)
+
+-- with the same words go the same rows, words written and filled cells, the first three values of an answer; the pairs tried need not
+abbrev pub CallsCounted : Type 0
+CallsCounted =
+    (a b c d words : List ℕ) (v : MinimumWrote a b words) (w : MinimumWrote c d words) → take 3 v.values ≡ take 3 w.values
+
+-- "The minimum union of such a result with itself, where accepted, is that result."
+abbrev pub CallsAgain : Type 0
+CallsAgain = (x y result again : List ℕ) → MinimumWrote x y result → MinimumWrote result result again → again ≡ result
+
+-- "Complement union doesn't have the first property": whatever four done calls on these tables wrote, the words of both groupings differ. That
+-- four such calls are done, given room, `Ungrouped` tells.
+abbrev pub CallsUngrouped : (x y z : List ℕ) → Type 0
+CallsUngrouped x y z = OfBothGroupings ComplementWrote x y z (λ left right. left ≡ right → ⊥)

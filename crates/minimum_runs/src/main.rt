@@ -1,6 +1,8 @@
 // Runs of minimum union: each case's answer, the words written, and how many of the words past them are as found.
 #![tactic(auto)]
 
+mod three;
+
 use run_cases::{image, print};
 use std::io;
 
@@ -41,15 +43,23 @@ const CASES: [(&str, &str, &str, usize); 13] = [
     ("minimum of 17 columns", "12345678|", "9:;<=>?@A|", 0),
 ];
 
-// Minimum union of two tables in a buffer of some words, with the answer printed.
-fn minimum(rt: &(impl Print + AllocGlobal), a: &[u32], b: &[u32], room: usize) -> io::Result<()> {
+// Minimum union of two tables in a buffer of some words, with the answer printed. Returns the words written.
+fn minimum(
+    rt: &(impl Print + AllocGlobal),
+    a: &[u32],
+    b: &[u32],
+    room: usize,
+) -> io::Result<Vec<u32>> {
     let mut table = print::lend(rt.alloc(), room)?;
     let answer = unions::minimum_union(a, b, &mut table);
     print::answer(
         rt,
         answer.map(|done| [done.rows, done.words, done.filled, done.pairs]),
     )?;
-    print::buffer(rt, &table, answer.map_or(0, |done| done.words))
+    let words = answer.map_or(0, |done| done.words);
+    print::buffer(rt, &table, words)?;
+    table.truncate(words);
+    Ok(table)
 }
 
 fn main(rt: HostRuntime) -> io::Result<()> {
@@ -58,5 +68,5 @@ fn main(rt: HostRuntime) -> io::Result<()> {
         print!(&rt; "{name}")?;
         minimum(&rt, &a, &b, room)?;
     }
-    Ok(())
+    three::run(&rt)
 }

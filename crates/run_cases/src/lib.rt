@@ -5,5 +5,6 @@
 pub mod change;
 pub mod fan;
 pub mod folder;
+pub mod grouping;
 pub mod image;
 pub mod print;

@@ -16,7 +16,7 @@ use Rattle.definitions.specs.Statements.{Member}
 use Rattle.definitions.proofs.Lists.{member-get, map-member}
 use Rattle.definitions.proofs.Counts.{flatten-length}
 use Rattle.definitions.proofs.Questions.{passed_is}
-use Rattle.definitions.proofs.Images.{passed_ids, passed_rows, widened_count, rows_length}
+use Rattle.definitions.proofs.Images.{row_size, widened_count, rows_length}
 use Rattle.definitions.proofs.Flat.{Wide}
 use Rattle.lists.proofs.Flat.{row_fits, flatten_next}
 use Rattle.tables.specs.Table.{Source, EmptyFor, Widened}
@@ -112,8 +112,7 @@ module _ {image all cells₀ : List ℕ} (f : Source image all) (room : EmptyFor
       row_even =
           let p = (passed_is max_rows image).0 accepted in
           let n : length (image_rows image) ≡ row_count image = rows_length (column_count image) (row_count image) (cell_words image) in
-          ap length er ∙ passed_rows max_rows image p (get_or (image_rows image) i []) (member-get [] (image_rows image) i (omega arith))
-          ∙ sym (passed_ids max_rows image p)
+          ap length er ∙ row_size max_rows image p (get_or (image_rows image) i []) (member-get [] (image_rows image) i (omega arith))
 
       -- each cell of the row has an index, within the cells
       pub row_indices : (length row ≤ length indices) × ((p : ℕ) → Member p indices → p < length part)
