@@ -27,8 +27,7 @@ use Rattle.definitions.proofs.Minimum.{minimum_is, every_row_stays}
 use Rattle.definitions.proofs.Counts.{fused_count}
 use Rattle.definitions.proofs.Unions.{rows_are, columns_count, rows_even, minimum_even, fused_are, fused_even}
 use Rattle.definitions.proofs.UnionColumns.{columns_ids, columns_narrow}
-use Rattle.definitions.proofs.Outcomes.{complement_done}
-use Rattle.definitions.proofs.Promise.{outer_complete, minimum_complete}
+use Rattle.definitions.proofs.Promise.{outer_complete, minimum_complete, complement_complete}
 use Rattle.definitions.proofs.Images.{words_front, image_rows_front, row_size, PartOf, first_part, second_part, accepted_rows, minimum_short}
 use Rattle.definitions.proofs.Demand3.{every_row}
 
@@ -146,7 +145,7 @@ unions_keep_cells a b table sets values table_after sets_after call id w filled 
     let c = (minimum_complete a b table table_after values p).accepted in
     front_keeps a b c (minimum_rows T) (minimum_keeps a b c) id w filled table_after _ p.writes)
     (λ p.
-    let d = (complement_done a b (length table) (length sets) values).0 (sym p.answers) in
+    let d = complement_complete p in
     let keeps = fused_keeps a b d.accepted (omega (arith, d.few_sets, fused_count columns T)) in
     front_keeps a b d.accepted (fused_rows columns T) keeps id w filled table_after _ p.writes))
     call

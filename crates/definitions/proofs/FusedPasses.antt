@@ -1,6 +1,6 @@
 -- The fused table that a done complement union writes is itself an image that passes the questions 1 to 7, with at most 1,024 rows, and so has
 -- pages: every cell of a joined row is a cell of T. Assumes nothing.
-use mathlib.Core.Path.{◌≡◌, refl, sym, ◌∙◌, ap, subst}
+use mathlib.Core.Path.{◌≡◌, refl, ◌∙◌, ap, subst}
 use mathlib.Core.Bool.{Bool, true}
 use mathlib.Core.Logic.{inl, inr}
 use mathlib.Core.List.{List, [], ◌∷◌}
@@ -22,9 +22,8 @@ use Rattle.definitions.proofs.Lists.{member-get}
 use Rattle.definitions.proofs.Joined.{members_are}
 use Rattle.definitions.proofs.Counts.{fused_count}
 use Rattle.definitions.proofs.Unions.{rows_even, fused_are, fused_even}
-use Rattle.definitions.proofs.Outcomes.{complement_done}
 use Rattle.definitions.proofs.TablePasses.{union_passes, accepted_cells}
-use Rattle.definitions.proofs.Promise.{table_front}
+use Rattle.definitions.proofs.Promise.{table_front, complement_complete}
 use Rattle.definitions.proofs.Pages.{some_page, page_written}
 
 -- ---- the cells of the fused table, by any test of a word
@@ -73,7 +72,7 @@ fused_passes a b room sets_room values d =
 
 pub fused_has_pages : FusedHasPages
 fused_has_pages a b table sets values table_after sets_after call =
-    let d = (complement_done a b (length table) (length sets) values).0 (sym call.answers) in
+    let d = complement_complete call in
     let p = fused_passes a b (length table) (length sets) values d in (
       some_page (fused_image a b) p,
       λ n bytes answer bytes_after exists room shown.

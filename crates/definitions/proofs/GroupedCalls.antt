@@ -6,12 +6,11 @@ use lib.ListN.{length, take}
 use Rattle.definitions.specs.Image.{row_count, cell_words}
 use Rattle.definitions.specs.MinimumUnion.{filled}
 use Rattle.definitions.specs.Calls.{Accepted, minimum_image, fused_image}
-use Rattle.definitions.specs.Promise.{MinimumWrote, ComplementWrote, OfBothGroupings, CallsGrouped, CallsCounted, CallsAgain, CallsUngrouped}
-use Rattle.definitions.specs.Grouping.{OfEachUnion, Ungrouped}
-use Rattle.definitions.proofs.Outcomes.{complement_done}
-use Rattle.definitions.proofs.Promise.{table_front, minimum_complete, minimum_front}
+use Rattle.definitions.specs.Promise.{MinimumWrote, ComplementWrote, OfBothGroupings, CallsAssociative, CallsCounted, CallsIdempotent, CallsNotAssociative}
+use Rattle.definitions.specs.Grouping.{OfEachUnion, NotAssociative}
+use Rattle.definitions.proofs.Promise.{table_front, minimum_complete, minimum_front, complement_complete}
 use Rattle.definitions.proofs.MinimumResult.{result_count, result_cells}
-use Rattle.definitions.proofs.Grouping.{grouped, again}
+use Rattle.definitions.proofs.Grouping.{associative, idempotent}
 
 -- ---- what a call wrote is its result's image
 
@@ -22,9 +21,7 @@ minimum_wrote a b result w = (
 )
 
 complement_wrote : (a b result : List ℕ) → ComplementWrote a b result → Accepted a b × (result ≡ fused_image a b)
-complement_wrote a b result w =
-    let d = (complement_done a b (length w.table) (length w.sets) w.values).0 (sym w.call.answers) in
-    (d.accepted, sym w.written ∙ table_front w.call)
+complement_wrote a b result w = ((complement_complete w.call).accepted, sym w.written ∙ table_front w.call)
 
 -- the answer's rows, words written and filled cells are those of the words; the pairs tried are of the two tables
 wrote_counts : (a b result : List ℕ) (w : MinimumWrote a b result) → take 3 w.values ≡ row_count result ∷ length result ∷ filled (cell_words result) ∷ []
@@ -60,16 +57,16 @@ module _ (Wrote : (a b words : List ℕ) → Type 0) (result : List ℕ → List
         first_with = subst (λ (l : List ℕ). Accepted x l) yz.1 from_first.0;
       }))
 
-pub calls_grouped : CallsGrouped
-calls_grouped x y z = handed_on MinimumWrote minimum_image minimum_wrote x y z (λ left right. left ≡ right) (grouped x y z)
+pub calls_associative : CallsAssociative
+calls_associative x y z = handed_on MinimumWrote minimum_image minimum_wrote x y z (λ left right. left ≡ right) (associative x y z)
 
-pub calls_again : CallsAgain
-calls_again x y result again_words wrote wrote_again =
+pub calls_idempotent : CallsIdempotent
+calls_idempotent x y result again_words wrote wrote_again =
     let xy = minimum_wrote x y result wrote in
     let twice = minimum_wrote result result again_words wrote_again in
     let accepted = subst (λ (l : List ℕ). Accepted l l) xy.1 twice.0 in
-    twice.1 ∙ ap (λ (l : List ℕ). minimum_image l l) xy.1 ∙ again x y xy.0 accepted ∙ sym xy.1
+    twice.1 ∙ ap (λ (l : List ℕ). minimum_image l l) xy.1 ∙ idempotent x y xy.0 accepted ∙ sym xy.1
 
-pub calls_ungrouped : (x y z : List ℕ) (room sets_room : ℕ) → Ungrouped x y z room sets_room → CallsUngrouped x y z
-calls_ungrouped x y z room sets_room u =
+pub calls_not_associative : (x y z : List ℕ) (room sets_room : ℕ) → NotAssociative x y z room sets_room → CallsNotAssociative x y z
+calls_not_associative x y z room sets_room u =
     handed_on ComplementWrote fused_image complement_wrote x y z (λ left right. left ≡ right → ⊥) (λ p. u.other_words)

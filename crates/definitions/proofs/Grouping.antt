@@ -12,16 +12,16 @@ use Rattle.definitions.specs.Word.{column_word}
 use Rattle.definitions.specs.Image.{column_words, image_ids, image_rows, image_of}
 use Rattle.definitions.specs.Ascending.{ascending}
 use Rattle.definitions.specs.OuterUnion.{compare_word, compare_row, union_ids, marks, union_column, union_columns, widened, widened_rows, union_rows}
-use Rattle.definitions.specs.MinimumUnion.{covers, subsumes, minimum_rows}
+use Rattle.definitions.specs.MinimumUnion.{subsumes, minimum_rows}
 use Rattle.definitions.specs.Calls.{Accepted, minimum_image}
 use Rattle.definitions.specs.Statements.{Member}
 use Rattle.definitions.specs.Claims.{Covered, WidenedOf}
-use Rattle.definitions.specs.Grouping.{Grouped, Again}
+use Rattle.definitions.specs.Grouping.{Associative, Idempotent}
 use Rattle.definitions.proofs.Ascending.{member_split, member-join, ascending_left, ascending_right, ascending_twice}
 use Rattle.definitions.proofs.Orders.{words, rows}
 use Rattle.definitions.proofs.Lists.{member-map, map-member, map_ext, distinct-strict}
-use Rattle.definitions.proofs.Subsumption.{covers_self, covers_cases, subsumes_is}
-use Rattle.definitions.proofs.Minimum.{minimum_is, minimum_rise, minimum_again, every_row_stays}
+use Rattle.definitions.proofs.Subsumption.{covered_covers, covers_cases}
+use Rattle.definitions.proofs.Minimum.{minimum_is, minimum_rise, minimum_idempotent, every_row_stays}
 use Rattle.definitions.proofs.Reduced.{Reduced, reduced_self, reduced_append, reduced_minimum}
 use Rattle.definitions.proofs.Unions.{ids_rise, rows_rise, rows_are, minimum_even, columns_count}
 use Rattle.definitions.proofs.Widened.{widened_size, widened_twice, widened_same, widened_covers}
@@ -61,7 +61,7 @@ module _ (a b wide : List ℕ) (c : Accepted a b) where
         let i = map-member (widened wide (image_ids image)) r (image_rows image) h in
         let t = widened ids (image_ids image) i.0 in
         let s = every_row_stays T t (p.rows t (i.0, i.1, refl)) in
-        let above : covers s.0 t ≡ true = ⊎_elim (λ e. rw e (covers_self t)) (λ e. ((subsumes_is s.0 t).0 e).1) s.2 in
+        let above = covered_covers s.0 t s.2 in
         let row : widened wide ids t ≡ r = once i.0 i.1 ∙ sym i.2 in
         let size = widened_size wide ids s.0 ∙ sym (widened_size wide ids t) in (
           widened wide ids s.0,
@@ -136,9 +136,9 @@ module _ (x y z : List ℕ) (xy : Accepted x y) (yz : Accepted y z) where
       ∙ sym (reduced_minimum _ _ (reduced_append _ _ _ _ (reduced_self (widened_rows right x)) (result_reduced y z right yz)))
 
 -- that the two last unions are accepted is not needed for their words
-pub grouped : Grouped
+pub associative : Associative
 unfolding minimum_image
-grouped x y z p =
+associative x y z p =
     ap₂ image_of (grouped_columns x y z p.first_two p.last_two) (grouped_rows x y z p.first_two p.last_two)
 
 -- ---- a result with itself
@@ -147,35 +147,35 @@ module _ (x y : List ℕ) (c : Accepted x y) where
   abbrev own : List ℕ
   own = minimum_image x y
 
-  again_ids : union_ids own own ≡ union_ids x y
+  own_ids : union_ids own own ≡ union_ids x y
   unfolding union_ids
-  again_ids = ap (λ (l : List ℕ). ascending compare_word (l ++ l)) (result_ids x y c) ∙ ascending_twice words (union_ids x y) (ids_rise x y)
+  own_ids = ap (λ (l : List ℕ). ascending compare_word (l ++ l)) (result_ids x y c) ∙ ascending_twice words (union_ids x y) (ids_rise x y)
 
-  again_columns : union_columns own own ≡ union_columns x y
+  own_columns : union_columns own own ≡ union_columns x y
   unfolding union_columns
-  again_columns =
+  own_columns =
       map_ext (union_column (column_words own) (column_words own)) (union_column (column_words x) (column_words y)) (union_ids own own)
       (λ id h. ap (column_word id) (or_self (marks (column_words own) id) ∙ result_marks x y c id))
-      ∙ ap (map (union_column (column_words x) (column_words y))) again_ids
+      ∙ ap (map (union_column (column_words x) (column_words y))) own_ids
 
   own_rows : widened_rows (union_ids own own) own ≡ minimum_rows (union_rows x y)
   unfolding widened_rows
   own_rows =
       let ids = union_ids x y in
       let stay = minimum_rows (union_rows x y) in
-      ap₂ (λ (l : List ℕ) (r : List (List ℕ)). map (widened l (image_ids own)) r) again_ids (result_rows x y c)
+      ap₂ (λ (l : List ℕ) (r : List (List ℕ)). map (widened l (image_ids own)) r) own_ids (result_rows x y c)
       ∙ ap (λ (l : List ℕ). map (widened ids l) stay) (result_ids x y c)
       ∙ map_ext (widened ids ids) (λ r. r) stay (λ r h.
       widened_same ids r (minimum_even x y r h ∙ columns_count x y) (distinct-strict words eqb eqb-true ids (ids_rise x y)))
       ∙ map-id stay
 
-  again_rows : minimum_rows (union_rows own own) ≡ minimum_rows (union_rows x y)
+  own_stay : minimum_rows (union_rows own own) ≡ minimum_rows (union_rows x y)
   unfolding union_rows
-  again_rows =
+  own_stay =
       let stay = minimum_rows (union_rows x y) in
       ap minimum_rows (ap (λ (l : List (List ℕ)). ascending compare_row (l ++ l)) own_rows ∙ ascending_twice rows stay (minimum_rise (union_rows x y) (rows_rise x y)))
-      ∙ minimum_again (union_rows x y)
+      ∙ minimum_idempotent (union_rows x y)
 
-pub again : Again
+pub idempotent : Idempotent
 unfolding minimum_image
-again x y c accepted = ap₂ image_of (again_columns x y c) (again_rows x y c)
+idempotent x y c accepted = ap₂ image_of (own_columns x y c) (own_stay x y c)

@@ -1,5 +1,5 @@
 -- Request A1: every list that complement union makes is read as the sets that made it. Assumes nothing.
-use mathlib.Core.Path.{◌≡◌, sym, ◌∙◌, ap, ap₂}
+use mathlib.Core.Path.{◌≡◌, ◌∙◌, ap, ap₂}
 use mathlib.Core.List.{List}
 use Prim.Native.Nat.{ℕ}
 use lib.ListN.{length, take}
@@ -12,9 +12,9 @@ use Rattle.definitions.specs.ReadBack.{read_words, words_room, read_outcome, mad
 use Rattle.definitions.specs.Claims.{ComplementDone, AcceptedList}
 use Rattle.definitions.specs.Demand3.{words_of_sets}
 use Rattle.definitions.specs.Promise.{MadeIsRead}
-use Rattle.definitions.proofs.Outcomes.{unless_passed, complement_done}
+use Rattle.definitions.proofs.Outcomes.{unless_passed}
 use Rattle.definitions.proofs.Images.{accepted_rows}
-use Rattle.definitions.proofs.Promise.{set_front}
+use Rattle.definitions.proofs.Promise.{set_front, complement_complete}
 use Rattle.definitions.proofs.ReadOutcome.{accepted_list}
 use Rattle.definitions.proofs.MadeLists.{made_count, list_accepted, list_words_lem}
 
@@ -43,7 +43,7 @@ module _ {a b : List ℕ} {room sets_room : ℕ} {values : List ℕ} (d : Comple
 -- "Every list that complement union makes is read as the sets that made it"
 pub made_is_read : MadeIsRead
 made_is_read a b table sets values table_after sets_after p words answer words_after q =
-    let d = (complement_done a b (length table) (length sets) values).0 (sym p.answers) in
+    let d = complement_complete p in
     let list : take (words_of_sets (done values)) sets_after ≡ set_list (union_columns a b) (union_rows a b) = set_front p in
     record {
       answers =

@@ -66,9 +66,9 @@ module _ (rows : List (List ℕ)) where
   every_row_stays t h = climb (total rows) t h (omega arith)
 
   -- none of its rows is subsumed by another of them
-  pub minimum_again : minimum_rows (minimum_rows rows) ≡ minimum_rows rows
+  pub minimum_idempotent : minimum_rows (minimum_rows rows) ≡ minimum_rows rows
   unfolding minimum_rows
-  minimum_again =
+  minimum_idempotent =
       let m = minimum_rows rows in
       filter-all (stays m) m (λ t h.
       let i = (minimum_is rows t).0 h in

@@ -300,3 +300,7 @@ pub minimum_front : (a b table table_after values : List ℕ) → MinimumPromise
 minimum_front a b table table_after values p =
     front (done values) (minimum_image a b) table table_after p.writes (words_of_table (done values))
     (sym (ap (λ (l : List ℕ). get_or l 1 0) (minimum_complete a b table table_after values p).carries))
+
+pub complement_complete : {a b table sets table_after sets_after values : List ℕ} → ComplementPromise a b table sets (done values) table_after sets_after
+    → ComplementDone a b (length table) (length sets) values
+complement_complete {a} {b} {table} {sets} {values = values} p = (complement_done a b (length table) (length sets) values).0 (sym p.answers)

@@ -104,7 +104,11 @@ covers_same (x ∷ s) (y ∷ t) l e f =
     (λ q. let p = eqb-true x y q in both p (let k = rw p at f in omega arith))
     (or_cases (not (is_filled y)) (eqb x y) (and_parts (not (is_filled y) || eqb x y) (covers s t) e).0)
 
--- of equally long rows, a covered row is equal or subsumed
+-- an equal or subsumed row is covered
+pub covered_covers : (s t : List ℕ) → (s ≡ t) ⊎ (subsumes s t ≡ true) → covers s t ≡ true
+covered_covers s t h = ⊎_elim (λ q. rw q (covers_self t)) (λ q. ((subsumes_is s t).0 q).1) h
+
+-- and of equally long rows, a covered row is equal or subsumed
 pub covers_cases : (s t : List ℕ) → length s ≡ length t → covers s t ≡ true → (s ≡ t) ⊎ (subsumes s t ≡ true)
 covers_cases s t l e =
     let i = covers-filled s t e in

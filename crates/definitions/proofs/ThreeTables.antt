@@ -15,10 +15,10 @@ use Rattle.definitions.specs.SetList.{bits, marks_from, record_of, set_record, l
 use Rattle.definitions.specs.Questions.{image_number}
 use Rattle.definitions.specs.Answer.{done}
 use Rattle.definitions.specs.Calls.{pair_outcome, minimum_image, fused_image, minimum_outcome, complement_outcome}
-use Rattle.definitions.specs.Grouping.{OfEachUnion, SomeDone, Ungrouped}
-use Rattle.definitions.specs.Promise.{CallsUngrouped}
+use Rattle.definitions.specs.Grouping.{OfEachUnion, SomeDone, NotAssociative}
+use Rattle.definitions.specs.Promise.{CallsNotAssociative}
 use Rattle.definitions.proofs.Notation.{#, ∅, ∄, column, marked}
-use Rattle.definitions.proofs.GroupedCalls.{calls_ungrouped}
+use Rattle.definitions.proofs.GroupedCalls.{calls_not_associative}
 
 -- ---- "Complement union doesn't have the first property"
 
@@ -120,27 +120,27 @@ computed = record {
 }
 
 -- their first cells: empty, and 1
-pub ungrouped : Ungrouped x y z 10 9
+pub not_associative : NotAssociative x y z 10 9
 unfolding image_of flatten
-ungrouped = record {
+not_associative = record {
   all_done = computed.fused_done;
   other_words = λ e.
       let cells : ∅ ≡ # 1 = ap (λ (image : List ℕ). get_or image 4 0) (sym computed.fused_left ∙ e ∙ computed.fused_right) in
       absurd (omega arith);
 }
 
-pub not_grouped : CallsUngrouped x y z
-not_grouped = calls_ungrouped x y z 10 9 ungrouped
+pub calls_differ : CallsNotAssociative x y z
+calls_differ = calls_not_associative x y z 10 9 not_associative
 
 -- their headers, with one row and with two
-pub ungrouped_marked : Ungrouped x y mark 10 9
+pub not_associative_marked : NotAssociative x y mark 10 9
 unfolding image_of flatten
-ungrouped_marked = record {
+not_associative_marked = record {
   all_done = computed.marked_done;
   other_words = λ e.
       let counts : row_count together ≡ row_count apart = ap row_count (sym computed.marked_left ∙ e ∙ computed.marked_right) in
       absurd (omega arith);
 }
 
-pub not_grouped_marked : CallsUngrouped x y mark
-not_grouped_marked = calls_ungrouped x y mark 10 9 ungrouped_marked
+pub calls_differ_marked : CallsNotAssociative x y mark
+calls_differ_marked = calls_not_associative x y mark 10 9 not_associative_marked

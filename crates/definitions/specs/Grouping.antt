@@ -1,4 +1,5 @@
--- Request A5, three lists in either grouping: what is claimed of three tables, over the definitions.
+-- Request A5, three lists in either grouping: minimum union is associative, its results are idempotent, and complement union is not
+-- associative; over the definitions.
 use Rattle.std.specs.Prelude.{◌≡◌, List, ℕ, leb, length}
 use Rattle.definitions.specs.Limits.{max_rows}
 use Rattle.definitions.specs.OuterUnion.{union_rows}
@@ -16,14 +17,14 @@ pub record OfEachUnion (Claim : (a b : List ℕ) → Type 0) (result : List ℕ 
 
 -- "For all three tables where the four minimum unions needed are accepted, the minimum union of the first two, united with the third, has the
 -- same words as the first united with the minimum union of the last two."
-abbrev pub Grouped : Type 0
-Grouped =
+abbrev pub Associative : Type 0
+Associative =
     (x y z : List ℕ) → OfEachUnion Accepted minimum_image x y z
     → minimum_image (minimum_image x y) z ≡ minimum_image x (minimum_image y z)
 
 -- "The minimum union of such a result with itself, where accepted, is that result." Each result of a minimum union is meant: `x` may be one too.
-abbrev pub Again : Type 0
-Again =
+abbrev pub Idempotent : Type 0
+Idempotent =
     (x y : List ℕ) → Accepted x y → Accepted (minimum_image x y) (minimum_image x y)
     → minimum_image (minimum_image x y) (minimum_image x y) ≡ minimum_image x y
 
@@ -38,6 +39,6 @@ abbrev pub SomeDone : Outcome → Type 0
 SomeDone outcome = (values : List ℕ) × (outcome ≡ done values)
 
 -- "Complement union doesn't have the first property": each union of these tables is done in buffers of so many words, and the words differ
-pub record Ungrouped (x y z : List ℕ) (room sets_room : ℕ) : Type 0 where
+pub record NotAssociative (x y z : List ℕ) (room sets_room : ℕ) : Type 0 where
   pub all_done : OfEachUnion (λ a b. SomeDone (complement_outcome a b room sets_room)) fused_image x y z
   pub other_words : fused_image (fused_image x y) z ≡ fused_image x (fused_image y z) → ⊥

@@ -182,8 +182,8 @@ OfBothGroupings Wrote x y z Claim =
     → Claim left right
 
 -- "the minimum union of the first two, united with the third, has the same words as the first united with the minimum union of the last two"
-abbrev pub CallsGrouped : Type 0
-CallsGrouped = (x y z : List ℕ) → OfBothGroupings MinimumWrote x y z (λ left right. left ≡ right)
+abbrev pub CallsAssociative : Type 0
+CallsAssociative = (x y z : List ℕ) → OfBothGroupings MinimumWrote x y z (λ left right. left ≡ right)
 
 -- with the same words go the same rows, words written and filled cells, the first three values of an answer; the pairs tried need not
 abbrev pub CallsCounted : Type 0
@@ -191,10 +191,10 @@ CallsCounted =
     (a b c d words : List ℕ) (v : MinimumWrote a b words) (w : MinimumWrote c d words) → take 3 v.values ≡ take 3 w.values
 
 -- "The minimum union of such a result with itself, where accepted, is that result."
-abbrev pub CallsAgain : Type 0
-CallsAgain = (x y result again : List ℕ) → MinimumWrote x y result → MinimumWrote result result again → again ≡ result
+abbrev pub CallsIdempotent : Type 0
+CallsIdempotent = (x y result again : List ℕ) → MinimumWrote x y result → MinimumWrote result result again → again ≡ result
 
 -- "Complement union doesn't have the first property": whatever four done calls on these tables wrote, the words of both groupings differ. That
--- four such calls are done, given room, `Ungrouped` tells.
-abbrev pub CallsUngrouped : (x y z : List ℕ) → Type 0
-CallsUngrouped x y z = OfBothGroupings ComplementWrote x y z (λ left right. left ≡ right → ⊥)
+-- four such calls are done, given room, `NotAssociative` tells.
+abbrev pub CallsNotAssociative : (x y z : List ℕ) → Type 0
+CallsNotAssociative x y z = OfBothGroupings ComplementWrote x y z (λ left right. left ≡ right → ⊥)
