@@ -17,6 +17,5 @@ pub(crate) fn flush_right<S: Style>(value: S::Value, width: usize, out: &mut Wri
     let mut text = [0u8; CELL_WIDTH];
     let mut field = Writer::new(&mut text);
     S::put(value, &mut field);
-    out.blanks(width - field.length());
-    out.text(field.written());
+    out.flush_right(field.written(), width);
 }

@@ -1,19 +1,14 @@
 -- Where a row stands among rows that are named by indices in ascending order. What `order_rows` gives is what `position_of` asks: their rows ascend,
 -- and the row of each index below n stands among them. Assumes nothing.
-use mathlib.Core.Path.{◌≡◌, refl, sym, ◌∙◌, ap, ap₂, subst}
-use mathlib.Core.Bool.{Bool, true, false, true≢false}
-use mathlib.Core.Logic.{⊎_elim}
-use mathlib.Core.List.{List, [], ◌++◌, map}
-use Prim.Native.Nat.{ℕ, ◌*◌, ◌<◌, ◌≤◌}
-use native.Mathlib.Nat.{eq-or-lt_of_le}
+use mathlib.Core.Path.{◌≡◌, sym, ◌∙◌, ap, subst}
+use mathlib.Core.List.{List, [], ◌++◌}
+use Prim.Native.Nat.{ℕ, ◌+◌, ◌*◌, ◌<◌, ◌≤◌}
 use native.Mathlib.Omega.{arith}
 use lib.Dec.{ltb}
-use lib.ListN.{length, get_or, take, drop, length-map, get_or-map}
+use lib.ListN.{length, get_or, take, drop, length-map}
 use lib.Seq.{take-append-le, length-take-le}
 use borrow.Author.Tests.{ltb-true, ltb-false}
-use Rattle.std.specs.Cmp.Lexicographic.{slice_cmp}
-use Rattle.std.specs.List.Sorted.{IsPartitionedBy, IsPartitionPoint}
-use Rattle.std.specs.Ordering.{nat_cmp, is_lt}
+use Rattle.std.proofs.lemmas.List.{get_or-map as map_at}
 use Rattle.std.specs.declared.cmp.Ordering.{Ordering}
 use Rattle.std.specs.declared.cmp.Ordering.TheVariants.{Less, Equal, Greater}
 use Rattle.definitions.specs.Image.{rows_in}
@@ -24,12 +19,12 @@ use Rattle.definitions.specs.Statements.{Member}
 use Rattle.definitions.proofs.Bools.{bool_cases}
 use Rattle.definitions.proofs.Images.{rows_length}
 use Rattle.definitions.proofs.Lists.{member-get, member_at, find_index-strict}
-use Rattle.definitions.proofs.Ascending.{ascending-has, strict-get, not_before_self}
+use Rattle.definitions.proofs.Ascending.{ascending-has, before≢same}
 use Rattle.definitions.proofs.Orders.{rows}
 use Rattle.definitions.proofs.Rows.{same_is}
 use Rattle.lists.proofs.Flat.{rows_at_lem}
+use Rattle.lists.proofs.Search.{Between, search_up, search_down}
 use Rattle.rows.specs.Indices.{row_at, rows_at, AscendingIndices, Ordered}
-use Rattle.rows.proofs.Comparing.{row_cmp}
 use Rattle.rows.proofs.Indices.{indices_ascending}
 
 module _ (c n : ℕ) (w l : List ℕ) (o : Ordered c n w l) where
@@ -60,56 +55,45 @@ ordered_within c n m w old x room size o =
       fewer = omega (arith, all, o.0);
     }
 
--- ---- the rows that come before a row
+-- ---- a row is sought among the rows at indices
 
-module _ (c : ℕ) (w row : List ℕ) where
-  -- the row at an index comes before it
-  abbrev pub before : ℕ → Bool
-  before i = is_lt (slice_cmp nat_cmp (row_at c w i) row)
+-- it lies between two of them
+abbrev pub Sought : ℕ → List ℕ → List ℕ → List ℕ → ℕ → ℕ → Type 0
+Sought c w l row lo hi = Between compare_row row row (rows_at c w l) lo hi
 
-  before_true : (i : ℕ) → compare_row (row_at c w i) row ≡ Less → before i ≡ true
-  before_true i e = ap is_lt (row_cmp (row_at c w i) row ∙ e)
+module _ (c : ℕ) (w l row : List ℕ) (a : AscendingIndices c w l) where
+  pub sought_all : Sought c w l row 0 (length l)
+  sought_all = record { order = omega arith; within = omega (arith, length-map l (row_at c w)); low = λ j k. absurd (omega arith); high = λ j k m. absurd (omega (arith, length-map l (row_at c w))) }
 
-  is_less : (o : Ordering) → is_lt o ≡ true → o ≡ Less
-  is_less Less e = refl
-  is_less Equal e = absurd (true≢false (sym e))
-  is_less Greater e = absurd (true≢false (sym e))
+  -- o is what the comparison with the row of the index at mid told
+  module _ (lo hi mid : ℕ) (b : Sought c w l row lo hi) (above : lo ≤ mid) (below : mid < hi) (o : Ordering) (told : o ≡ compare_row row (row_at c w (get_or l mid 0))) where
+    within : mid < length l
+    within = omega (arith, b.within, length-map l (row_at c w))
 
-  before_less : (i : ℕ) → before i ≡ true → compare_row (row_at c w i) row ≡ Less
-  before_less i e = sym (row_cmp (row_at c w i) row) ∙ is_less (slice_cmp nat_cmp (row_at c w i) row) e
+    compared : compare_row row (get_or (rows_at c w l) mid row) ≡ o
+    compared = ap (compare_row row) (map_at (row_at c w) l mid 0 row within) ∙ sym told
 
-  module _ (l : List ℕ) (a : AscendingIndices c w l) where
-    -- of two of the indices the first names the row that comes first
-    rising : (i j d : ℕ) → i < j → j < length l → compare_row (row_at c w (get_or l i d)) (row_at c w (get_or l j d)) ≡ Less
-    rising i j d h k =
-        let key = row_at c w in
-        ap₂ compare_row (sym (get_or-map key l i d)) (sym (get_or-map key l j d))
-        ∙ strict-get rows (key d) (map key l) i j a.strict h (omega (arith, k, length-map l key))
+    pub before_mid : o ≡ Less → Sought c w l row lo mid
+    before_mid e = search_down rows row row (rows_at c w l) a.strict lo hi mid b above below (compared ∙ e)
 
-    pub before_parted : IsPartitionedBy before l
-    before_parted i j d h k e =
-        ⊎_elim (λ p. ap (λ (x : ℕ). before (get_or l x d)) p ∙ e)
-        (λ p. before_true (get_or l i d)
-        (rows.trans (row_at c w (get_or l i d)) (row_at c w (get_or l j d)) row (rising i j d p k) (before_less (get_or l j d) e)))
-        (eq-or-lt_of_le h)
+    pub behind_mid : o ≡ Greater → Sought c w l row (mid + 1) hi
+    behind_mid e = search_up rows row row (rows_at c w l) a.strict lo hi mid b above below (compared ∙ e)
 
-  -- it stands behind them
-  pub position_found : (l : List ℕ) → AscendingIndices c w l → Member row (rows_at c w l)
-      → (p : ℕ) → IsPartitionPoint (λ y. before y ≡ true) (λ y. before y ≡ false) l p
-      → (p ≡ find_index (same_row row) (rows_at c w l)) × (p < length l)
-  position_found l a h p point =
-      let key = row_at c w in
-      let at = member_at (key 0) row (map key l) h in
+    pub at_mid : o ≡ Equal → (mid ≡ find_index (same_row row) (rows_at c w l)) × (mid < length l)
+    at_mid e =
+        let t = rows_at c w l in
+        let is : row ≡ get_or t mid row = rows.same row (get_or t mid row) (compared ∙ e) in (
+          sym (ap (λ (r : List ℕ). find_index (same_row r) t) is ∙ find_index-strict rows same_row same_is row t mid a.strict (omega (arith, within, length-map l (row_at c w)))),
+          within,
+        )
+
+  -- a row that stands among them is found
+  pub found_between : Member row (rows_at c w l) → (lo hi : ℕ) → Sought c w l row lo hi → hi ≤ lo → ⊥
+  found_between h lo hi b none =
+      let t = rows_at c w l in
+      let at = member_at row row t h in
       let j : ℕ = at.0 in
-      let below : j < length l = omega (arith, at.1, length-map l key) in
-      let here : key (get_or l j 0) ≡ row = sym (get_or-map key l j 0) ∙ at.2 in
-      let no_less : p < j → ⊥ = λ lt.
-      true≢false (sym (before_true (get_or l p 0) (ap (compare_row (key (get_or l p 0))) (sym here) ∙ rising l a p j 0 lt below)) ∙ point.1 p 0 (omega arith) (omega arith)) in
-      let no_more : j < p → ⊥ = λ lt.
-      not_before_self rows row (ap (λ (x : List ℕ). compare_row x row) (sym here) ∙ before_less (get_or l j 0) (point.0 j 0 (omega arith) lt)) in
-      let same : p ≡ j =
-      bool_cases (ltb p j) (λ t. absurd (no_less (ltb-true p j t)))
-      (λ t. bool_cases (ltb j p) (λ u. absurd (no_more (ltb-true j p u))) (λ u. omega (arith, ltb-false p j t, ltb-false j p u))) in (
-        same ∙ sym (ap (λ (x : List ℕ). find_index (same_row x) (map key l)) (sym at.2) ∙ find_index-strict rows same_row same_is (key 0) (map key l) j a.strict at.1),
-        omega arith,
-      )
+      let self : compare_row row (get_or t j row) ≡ Equal = ap (compare_row row) at.2 ∙ rows.self row in
+      bool_cases (ltb j lo)
+      (λ p. before≢same (sym (rows.flip row (get_or t j row) (b.low j (ltb-true j lo p))) ∙ ap (λ (r : List ℕ). compare_row r row) at.2 ∙ rows.self row))
+      (λ p. before≢same (sym (b.high j (omega (arith, ltb-false j lo p)) at.1) ∙ self))

@@ -1,12 +1,12 @@
 -- Laws of rows written one after the other over a part of a list. Assumes nothing.
 use mathlib.Core.Path.{◌≡◌, sym, ◌∙◌, ap, subst}
 use mathlib.Core.Logic.{⊎_elim}
-use mathlib.Core.List.{List, [], ◌∷◌, ◌++◌, append_assoc, flatten}
+use mathlib.Core.List.{List, [], ◌∷◌, ◌++◌, flatten}
 use Prim.Native.Nat.{ℕ, ◌+◌, ◌*◌, ◌<◌, ◌≤◌}
 use native.Mathlib.Nat.{add-mul, one-mul, zero-add}
 use native.Mathlib.Omega.{arith}
 use lib.ListN.{length, get_or, take, drop, length-drop, length-map, get_or-map}
-use lib.Seq.{paste, take_all, drop_at, length-take-le, take-append_seam}
+use lib.Seq.{paste, drop_at, length-take-le, take-append_seam}
 use Rattle.definitions.proofs.Counts.{flatten-length}
 use Rattle.definitions.proofs.Flat.{Wide, flat_row}
 use Rattle.lists.proofs.Flat.{row_fits}

@@ -8,7 +8,7 @@ use Prim.Native.Nat.{ℕ, zero, suc, ◌+◌, ◌<◌, ◌≤◌}
 use native.Mathlib.Omega.{arith}
 use lib.Dec.{eqb}
 use lib.ListN.{length, get_or, set, replicate, take, drop, length-set, length-map, get_or-map}
-use lib.Seq.{get_or-set_same, get_or-set_other, ext_get_or}
+use lib.Seq.{get_or-set_same, get_or-set_other, ext_get_or, length-take-le, take-set-lt}
 use borrow.Author.Tests.{eqb-true, eqb-false, eq-eqb}
 use Rattle.std.proofs.lemmas.List.{get_or-map as map_at, drop_more, drop_all}
 use Rattle.definitions.specs.Lists.{any, distinct}
@@ -72,6 +72,15 @@ scatter_tells d goal (p ∷ indices) (v ∷ row) cells e f i h =
     inl (ap (λ (k : ℕ). get_or (set cells p v) k 0) u ∙ get_or-set_same cells p v 0 g.0 ∙ g.1 ∙ ap (λ (k : ℕ). get_or goal k 0) (sym u)))
     (λ b. let u = eqb-false i p b in
     ⊎_elim (λ q. inl (get_or-set_other cells p i v 0 u ∙ q)) (λ q. ⊎_elim (λ r. absurd (u r)) (λ r. inr r) q) h))
+
+-- where all is written at the front, the front alone is written
+take_scattered : (n : ℕ) (indices row cells : List ℕ) → ((p : ℕ) → Member p indices → p < n) → take n (scattered cells indices row) ≡ scattered (take n cells) indices row
+unfolding scattered
+take_scattered n [] row cells f = refl
+take_scattered n (p ∷ indices) [] cells f = refl
+take_scattered n (p ∷ indices) (v ∷ row) cells f =
+    take_scattered n indices row (set cells p v) (λ q m. f q (inr m))
+    ∙ ap (λ (l : List ℕ). scattered l indices row) (take-set-lt n cells p v (f p (inl refl)))
 
 -- ---- a row at the indices of its ids in a union is a widened row
 
@@ -137,6 +146,7 @@ indices_ordered all ids differ =
 
 -- ---- distinct ids, each with what f tells of it written at the count of smaller ones, are in order
 
+-- in a list that has no other cell
 module _ (f : ℕ → ℕ) (all cells : List ℕ) (differ : distinct eqb all ≡ true) (room : length cells ≡ length all)
     (empty : (k : ℕ) → get_or cells k 0 ≡ 0) where
   abbrev sorted : List ℕ
@@ -149,9 +159,24 @@ module _ (f : ℕ → ℕ) (all cells : List ℕ) (differ : distinct eqb all ≡
       let i = member_at 0 x all (ascending_only words x all s) in
       ap (cell_in all (map f all)) (sym i.2) ∙ cell_own sorted all (map f all) differ i.0 i.1 ∙ map_at f all i.0 0 0 i.1 ∙ ap f i.2)
 
-  pub values_sorted : scattered cells (indices_in all all) (map f all) ≡ map f sorted
-  values_sorted =
+  pub all_values_sorted : scattered cells (indices_in all all) (map f all) ≡ map f sorted
+  all_values_sorted =
       ap (λ (l : List ℕ). scattered cells l (map f all)) (indices_ordered all all differ)
       ∙ scatter_widened sorted all (map f all) cells (is_strict words all) differ (λ id s. ascending-has words id all s) (length-map all f)
       (room ∙ sym (distinct_count all differ)) empty
       ∙ sorted_values
+
+-- at the front of a longer list
+module _ (f : ℕ → ℕ) (all cells cur : List ℕ) (differ : distinct eqb all ≡ true) (room : length all ≤ length cells)
+    (empty : (k : ℕ) → get_or cells k 0 ≡ 0) (written : cur ≡ scattered cells (indices_in all all) (map f all)) where
+  index_few : (p : ℕ) → Member p (indices_in all all) → p < length all
+  index_few p h =
+      let union = ascending compare_word all in
+      let within = indices_within union all (is_strict words all) (λ id s. ascending-has words id all s) p (subst (Member p) (indices_ordered all all differ) h) in
+      omega (arith, within, distinct_count all differ)
+
+  pub values_sorted : take (length all) cur ≡ map f (ascending compare_word all)
+  values_sorted =
+      ap (take (length all)) written
+      ∙ take_scattered (length all) (indices_in all all) (map f all) cells index_few
+      ∙ all_values_sorted f all (take (length all) cells) differ (length-take-le (length all) cells room) (take_empty (length all) cells empty)

@@ -1,9 +1,10 @@
 // Numbers, ids and cells as text, written behind one another into lent bytes.
 #![tactic(auto)]
 
-ghost use Rattle.std.specs.Prelude.{◌≡◌, ℕ, List, [], ◌∷◌, take};
+ghost use Rattle.std.specs.Prelude.{◌≡◌, ◌+◌, ◌≤◌, ℕ, List, [], ◌∷◌, length, take};
 ghost use Rattle.definitions.specs.Text.{decimal, id_text, cell_text};
-ghost use Rattle.definitions.specs.Page.{blanks};
+ghost use Rattle.definitions.specs.Page.{blanks, flush_right};
+ghost use Rattle.lists.specs.Written.{Fits, Written};
 ghost use Rattle.text.specs.Bytes.{space, newline, spaced};
 ghost use Rattle.text.specs.Writer.{HasRoom, Wrote};
 
@@ -16,6 +17,39 @@ const SPACE: u8 = b' ';
 const NEWLINE: u8 = b'\n';
 
 const DIGIT_ZERO: u8 = b'0';
+
+// Writes one byte at an index; the index behind it.
+fn put_byte(byte: u8, bytes: &mut [u8], at: usize) -> usize
+    requires { at + 1 ≤ length bytes.old }
+    ensures { Written bytes.old at (byte ∷ []) bytes.new result }
+{
+    bytes[at] = byte;
+    at + 1
+}
+
+// Writes so many blanks from an index on; where they end.
+fn put_blanks(n: usize, bytes: &mut [u8], at: usize) -> usize
+    requires { at + n ≤ length bytes.old }
+    ensures { Written bytes.old at (blanks n) bytes.new result }
+{
+    let end = at + n;
+    bytes[at..end].fill(SPACE);
+    end
+}
+
+// Writes the decimal digits of `n` from an index on; where they end. The index stays in a register:
+// a writer that is handed down the recursion is kept in memory, and a page of long numbers takes a
+// quarter more time.
+fn put_digits(n: usize, bytes: &mut [u8], at: usize) -> usize
+    requires { Fits bytes.old at (decimal n) }
+    ensures { Written bytes.old at (decimal n) bytes.new result }
+{
+    if n < 10 {
+        return put_byte(DIGIT_ZERO + n as u8, bytes, at);
+    }
+    let last = put_digits(n / 10, bytes, at);
+    put_byte(DIGIT_ZERO + (n % 10) as u8, bytes, last)
+}
 
 // Lent bytes, and how many of them are written, from the first one on. Each method writes a text behind what is written so far; every other
 // byte stays as it was.
@@ -55,8 +89,7 @@ impl<'a> Writer<'a> {
         requires { HasRoom self.old (byte ∷ []) }
         ensures { Wrote self.old (byte ∷ []) self.new }
     {
-        self.bytes[self.length] = byte;
-        self.length += 1;
+        self.length = put_byte(byte, self.bytes, self.length);
     }
 
     // The space between two fields.
@@ -80,9 +113,7 @@ impl<'a> Writer<'a> {
         requires { HasRoom self.old (blanks n) }
         ensures { Wrote self.old (blanks n) self.new }
     {
-        let end = self.length + n;
-        self.bytes[self.length..end].fill(SPACE);
-        self.length = end;
+        self.length = put_blanks(n, self.bytes, self.length);
     }
 
     // The bytes of `text`. By `copy_from_slice` a page would ask the firmware for `memmove`.
@@ -94,17 +125,25 @@ impl<'a> Writer<'a> {
         self.length += text.len();
     }
 
+    // A text flushed right in `width` characters.
+    pub fn flush_right(&mut self, text: &[u8], width: usize)
+        requires narrow { length text.now ≤ width }
+        requires room { HasRoom self.old (flush_right width text.now) }
+        ensures { Wrote self.old (flush_right width text.now) self.new }
+    {
+        // The whole field blank first, and the text over its end: the compiler knows the width
+        // where this is called, and writes such blanks at once.
+        let end = put_blanks(width, self.bytes, self.length);
+        write_over(text, self.bytes, end - text.len());
+        self.length = end;
+    }
+
     // The decimal digits of `n`. Not by `Display`: the firmware's archive has no formatter and no heap.
     pub fn number(&mut self, n: usize)
         requires { HasRoom self.old (decimal n) }
         ensures { Wrote self.old (decimal n) self.new }
     {
-        if n < 10 {
-            self.byte(DIGIT_ZERO + n as u8);
-        } else {
-            self.number(n / 10);
-            self.byte(DIGIT_ZERO + (n % 10) as u8);
-        }
+        self.length = put_digits(n, self.bytes, self.length);
     }
 
     // A space and then a value.

@@ -1,14 +1,32 @@
--- `position_of` counts the rows that come before the row that is sought (Positions).
-use Rattle.std.proofs.lemmas.List.Sorted.{IsPartitionPoint-from_clause}
-use borrow.Author.Rules.{rules}
-use Rattle.rows.proofs.Positions.{before, before_parted, position_found}
+-- `position_of` seeks the row between two places, halfway between which one is compared with it (Positions).
+use mathlib.Core.Path.{◌∙◌, ap}
+use native.Mathlib.Omega.{arith}
+use lib.ListN.{length-map}
+use Rattle.definitions.specs.OuterUnion.{compare_row}
+use Rattle.rows.specs.Indices.{row_at}
+use Rattle.rows.proofs.Positions.{sought_all, before_mid, behind_mid, at_mid, found_between}
 use Rattle.rows.proofs.named.Rows.position_of.Goals as goal
 
+pub loop-lo-init : goal.loop-lo-init
+loop-lo-init c = sought_all _ _ _ _ c.requires.0
+
+pub offset_bounds-order-mid : goal.offset_bounds-order-mid
+offset_bounds-order-mid c = omega (arith, c.loop-lo.invariant.within, length-map c.args.order.now (row_at c.args.self.now.width c.args.self.now.cells.now))
+
+pub bounds-order-mid : goal.bounds-order-mid
+bounds-order-mid c = omega (arith, c.loop-lo.invariant.within, length-map c.args.order.now (row_at c.args.self.now.width c.args.self.now.cells.now))
+
+pub loop-lo-preserved-in-Less : goal.loop-lo-preserved-in-Less
+loop-lo-preserved-in-Less c =
+    before_mid _ _ _ _ c.requires.0 _ _ _ c.loop-lo.invariant (omega arith) (omega arith) _ (c.compare_any.ensures ∙ ap (compare_row c.args.row.now) c.words.ensures) c.in-Less.is
+
+pub returns-in-Equal : goal.returns-in-Equal
+returns-in-Equal c =
+    at_mid _ _ _ _ c.requires.0 _ _ _ c.loop-lo.invariant (omega arith) (omega arith) _ (c.compare_any.ensures ∙ ap (compare_row c.args.row.now) c.words.ensures) c.in-Equal.is
+
+pub loop-lo-preserved : goal.loop-lo-preserved
+loop-lo-preserved c =
+    behind_mid _ _ _ _ c.requires.0 _ _ _ c.loop-lo.invariant (omega arith) (omega arith) _ (c.compare_any.ensures ∙ ap (compare_row c.args.row.now) c.words.ensures) c.in-Greater.is
+
 pub returns : goal.returns
-returns c =
-    let t = c.args.self.now in
-    let row = c.args.row.now in
-    let l = c.args.order.now in
-    let point = IsPartitionPoint-from_clause (before t.width t.cells.now row) l c.partition_point.result c.partition_point.ensures.partitioned
-    (before_parted t.width t.cells.now row l c.requires.0) (λ a r q k. search rules) in
-    position_found t.width t.cells.now row l c.requires.0 c.requires.1 c.partition_point.result point
+returns c = absurd (found_between _ _ _ _ c.requires.0 c.requires.1 _ _ c.loop-lo.invariant (omega arith))

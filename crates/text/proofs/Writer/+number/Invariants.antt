@@ -1,5 +1,0 @@
--- The measure is the number.
-use Rattle.text.proofs.Writer.+number.Given as goal
-
-abbrev pub decreases-number : goal.decreases-number
-decreases-number l = l.n
