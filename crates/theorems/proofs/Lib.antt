@@ -1,0 +1,1 @@
+-- The answers alone: the laws stand in `definitions`.

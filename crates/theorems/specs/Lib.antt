@@ -1,0 +1,2 @@
+-- What a theorem says that no one file of `definitions` does.
+pub mod Grouping
