@@ -17,7 +17,7 @@ use Rattle.std.proofs.lemmas.List.Edits.{paste_all}
 use Rattle.rows.proofs.Indices.{below_fit}
 
 -- the rows at indices that fit are all c words long
-fit_wide : (c : ℕ) (w l : List ℕ) → Fit c (length w) l → Wide c (rows_at c w l)
+pub fit_wide : (c : ℕ) (w l : List ℕ) → Fit c (length w) l → Wide c (rows_at c w l)
 fit_wide c w [] h r k = absurd k
 fit_wide c w (i ∷ l) h r k =
     ⊎_elim (λ e. ap length e ∙ length-take-le c (drop (i * c) w) (omega (arith, h.0, length-drop (i * c) w))) (λ q. fit_wide c w l h.1 r q) k
